@@ -1,0 +1,21 @@
+-- The one induction, and what follows for any reading
+pub mod Fusion
+pub mod Substitution
+pub mod Formed
+pub mod ExpandFirst
+pub mod Summary
+pub mod Later
+pub mod Compose
+-- Levels and cards
+pub mod Levels
+pub mod Cards
+-- Lengths and bytes
+pub mod Hom
+pub mod Write
+pub mod Size
+pub mod Form
+pub mod Length
+pub mod Index
+pub mod Bytes
+-- Demand 3 over definitions
+pub mod Demand3
