@@ -1,22 +1,23 @@
 -- The bytes of an expansion, written without expanding: an argument is written anew wherever its parameter stands, under the binders around it.
-use mathlib.Core.Path.{_≡_, refl, ap, ap₂, sym, _∙_}
-use mathlib.Core.List.{List, [], _∷_, _++_}
-use Prim.Native.Nat.{ℕ, zero, suc, _+_, _-_, _<_, _≤_}
-use native.Mathlib.Nat.{zero-add, add-zero, add-suc, suc-add, not-suc-le-zero, le-of-suc-le-suc}
+use mathlib.Core.List.{List, [], _++_, _∷_}
+use mathlib.Core.Path.{_∙_, _≡_, ap, ap₂, refl, sym}
+use lib.ListN.{getD, length, replicate}
+use native.Mathlib.Nat.{add-suc, add-zero, le-of-suc-le-suc, not-suc-le-zero, suc-add, zero-add}
 use native.Mathlib.Omega.{arith}
-use lib.ListN.{length, getD, replicate}
-use Rattle.theory.specs.Tree.{node, ⟨⟩, _▹_, count}
-use Rattle.theory.specs.Level.{plain, codeBinder, bindsIn}
-use Rattle.theory.specs.Term.{literal, Head, param, bound, declared, defined, builtin, leaf, Term, Terms, binder, Everys, noDefinitions, Fits, WellFormed, Reading, withDefined, meaning, eval, evals}
-use Rattle.theory.specs.Expand.{Definition, bodyIn, templates, aritiesOf, summaryIn, summariesFrom, expansion, Known}
-use Rattle.theory.proofs.Write.{twoBytes, token, write, writes}
-use Rattle.theory.proofs.Fusion.{Anything, anywhere, no-scope}
-use Rattle.theory.proofs.Formed.{none≢some, AllExpanded, expand-formed}
-use Rattle.theory.specs.Lists.{All}
+use Prim.Native.Nat.{_+_, _-_, _<_, _≤_, suc, zero, ℕ}
 use Rattle.theory.proofs.ExpandFirst.{Keeps, length-evals}
-use Rattle.theory.proofs.Summary.{AllLawful, AllSummarise, summarise-all, by-summaries, templates-closed}
+use Rattle.theory.proofs.Formed.{AllExpanded, expand-formed}
+use Rattle.theory.proofs.Fusion.{Anything, anywhere, no-scope}
 use Rattle.theory.proofs.Index.{one-variable}
+use Rattle.theory.proofs.Lists.{none-some}
 use Rattle.theory.proofs.Size.{no-writes}
+use Rattle.theory.proofs.Summary.{AllLawful, AllSummarise, by-summaries, summarise-all, templates-closed}
+use Rattle.theory.proofs.Write.{token, twoBytes, write, writes}
+use Rattle.theory.specs.Expand.{Definition, Known, aritiesOf, bodyIn, expansion, summariesFrom, summaryIn, templates}
+use Rattle.theory.specs.Level.{bindsIn, codeBinder, plain}
+use Rattle.theory.specs.Lists.{All}
+use Rattle.theory.specs.Term.{Everys, Fits, Head, Reading, Term, Terms, WellFormed, binder, bound, builtin, declared, defined, eval, evals, leaf, literal, meaning, noDefinitions, param, withDefined}
+use Rattle.theory.specs.Tree.{_▹_, count, node, ⟨⟩}
 
 -- what is written of something where so many binders stand around it
 abbrev pub Bytes : Type 0
@@ -81,7 +82,7 @@ written-head (bound j) ts n k w e =
 written-head (declared c x) ts n k w e =
     ap₂ (λ (m : ℕ) (l : List ℕ). token (declared c x) m ++ l) (length-evals bytes (paramBytes 0 n) (variables k) (bytes .unknown) (bindsIn plain) ts)
     (ap (oneByOne k (bindsIn plain)) (no-scope bytes (paramBytes 0 n) (variables k) (bytes .unknown) (variableAt k) ts) ∙ e)
-written-head (defined g) ts n k w e = none≢some (count ts) w
+written-head (defined g) ts n k w e = none-some (count ts) w
 written-head (builtin c) ts n k w e = ap (λ (l : List ℕ). 4 ∷ c ∷ l) e
 written-head (leaf (literal v)) ts n k w e = rw (no-writes ts w)
 

@@ -1,18 +1,19 @@
 -- Cards as bytes hold the levels that they are filled with, for any number of parameters.
-use mathlib.Core.Path.{_≡_, refl, ap, ap₂, sym, subst, _∙_}
-use mathlib.Core.List.{List, [], _∷_, _++_, map}
-use Prim.Native.Nat.{ℕ, zero, suc, _+_, _-_, _*_, _/_, _%_, _^_, _<_, _≤_}
-use native.Mathlib.Nat.{add-zero, add-suc, suc-add, zero-add, pow-succ', pow-le-pow-right, not-suc-le-zero, le-of-suc-le-suc}
+use borrow.Fn.PlainCycle.{is}
+use mathlib.Core.List.{List, [], _++_, _∷_, map}
+use mathlib.Core.Path.{_∙_, _≡_, ap, ap₂, refl, subst, sym}
+use lib.ListN.{List·getD-append, getD, length, length-append, length-replicate, replicate}
+use native.Mathlib.Nat.{add-suc, add-zero, le-of-suc-le-suc, not-suc-le-zero, pow-le-pow-right, pow-succ', suc-add, zero-add}
 use native.Mathlib.Omega.{arith}
-use lib.ListN.{length, getD, replicate, length-append, length-map, length-replicate, List·getD-append}
-use Rattle.limits.specs.Limits.{levelCount, maxArity, cardBytes}
+use Prim.Native.Nat.{_%_, _*_, _+_, _-_, _/_, _<_, _^_, _≤_, suc, zero, ℕ}
+use Rattle.limits.specs.Limits.{cardBytes, levelCount, maxArity}
+use Rattle.theory.proofs.Levels.{IsLevel, levels-kept}
+use Rattle.theory.proofs.Lists.{append-all, getD-all, replicate-all}
+use Rattle.theory.proofs.Summary.{AllSummarise, Lawful, Summarises, rememberFrom, summarise-next}
+use Rattle.theory.specs.Card.{cardOf, entryOf, levelsOf, readCard, usedEntries}
+use Rattle.theory.specs.Expand.{Definition, Template, summaryIn, summaryOf, templateOf}
 use Rattle.theory.specs.Lists.{All, numbersFrom}
 use Rattle.theory.specs.Term.{longWay}
-use Rattle.theory.specs.Expand.{Definition, Template, templateOf, summaryIn, summaryOf}
-use Rattle.theory.specs.Card.{entryOf, levelsOf, usedEntries, cardOf, readCard}
-use Rattle.theory.proofs.ExpandFirst.{append-all, getD-all}
-use Rattle.theory.proofs.Summary.{rememberFrom, Lawful, Summarises, AllSummarise, summarise-next}
-use Rattle.theory.proofs.Levels.{IsLevel, levels-kept}
 
 -- a definition's card, by the cards before it
 abbrev pub nextCard : List Template → List (List ℕ) → Definition → List ℕ
@@ -37,10 +38,6 @@ numbers-at i (suc m) (suc j) f h = numbers-at (suc i) m j f (le-of-suc-le-suc h)
 numbers-all : (P : ℕ → Type 0) (i m : ℕ) (f : ℕ → ℕ) → ((j : ℕ) → P (f j)) → All P (map f (numbersFrom i m))
 numbers-all P i zero f p = tt
 numbers-all P i (suc m) f p = (p i, numbers-all P (suc i) m f p)
-
-zeros-all : (m : ℕ) → All IsLevel (replicate m 0)
-zeros-all zero = tt
-zeros-all (suc m) = (omega arith, zeros-all m)
 
 pub entry-below : (ls : List ℕ) → All IsLevel ls → entryOf ls < levelCount ^ length ls
 entry-below [] a = omega arith
@@ -109,6 +106,6 @@ card-next ts cs all d w =
       kept = λ ls good.
           getD-all IsLevel (cardOf n f) (entryOf ls) 0
           (append-all IsLevel (usedEntries n f) (replicate (cardBytes - levelCount ^ n) 0)
-          (numbers-all IsLevel 0 (levelCount ^ n) (λ i. f (levelsOf n i)) (λ i. next .kept (levelsOf n i) (levels-all n i))) (zeros-all (cardBytes - levelCount ^ n)))
+          (numbers-all IsLevel 0 (levelCount ^ n) (λ i. f (levelsOf n i)) (λ i. next .kept (levelsOf n i) (levels-all n i))) (replicate-all IsLevel (cardBytes - levelCount ^ n) 0 (omega arith)))
           (omega arith);
     }

@@ -1,19 +1,19 @@
 -- Demand 3, whole: for definitions lawfully added one after the other, the cards' way is the long way; with what is known of every expansion.
-use mathlib.Core.Path.{_≡_, sym, _∙_}
 use mathlib.Core.List.{List, [], map}
 use mathlib.Core.Option.{some}
-use Prim.Native.Nat.{ℕ, _<_}
+use mathlib.Core.Path.{_∙_, _≡_, sym}
 use lib.ListN.{length}
-use Rattle.theory.specs.Term.{Term, noDefinitions, WellFormed, longWay, byCards, level}
-use Rattle.theory.specs.Expand.{Definition, bodyIn, templates, aritiesOf, summariesFrom, cards, expansion, Known}
+use Prim.Native.Nat.{_<_, ℕ}
+use Rattle.theory.proofs.Cards.{AllCards, card-next, cardLevel, cardsOf, nextCard}
 use Rattle.theory.proofs.Formed.{AllExpanded, expand-formed}
-use Rattle.theory.specs.Lists.{All}
-use Rattle.theory.proofs.Summary.{AllLawful, AllSummarise, summarise-all, remember-all, by-summaries, summary-exact, templates-closed}
+use Rattle.theory.proofs.Index.{far-index, reach}
 use Rattle.theory.proofs.Levels.{levels-kept}
-use Rattle.theory.specs.Card.{readCard}
-use Rattle.theory.proofs.Cards.{nextCard, cardsOf, cardLevel, AllCards, card-next}
+use Rattle.theory.proofs.Summary.{AllLawful, AllSummarise, by-summaries, remember-all, summarise-all, summary-exact, templates-closed}
 use Rattle.theory.proofs.Write.{write}
-use Rattle.theory.proofs.Index.{reach, far-index}
+use Rattle.theory.specs.Card.{readCard}
+use Rattle.theory.specs.Expand.{Definition, Known, aritiesOf, bodyIn, cards, expansion, summariesFrom, templates}
+use Rattle.theory.specs.Lists.{All}
+use Rattle.theory.specs.Term.{Term, WellFormed, byCards, level, longWay, noDefinitions}
 pub use Rattle.theory.proofs.Levels.{IsLevel}
 
 module _ (ds : List Definition) (lawful : AllLawful [] ds) where

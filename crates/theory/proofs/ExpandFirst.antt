@@ -1,17 +1,18 @@
 -- "Expand first, then read" is "read by summaries": the core of demand 3, for any reading of terms.
-use mathlib.Core.Path.{_≡_, refl, ap, sym, _∙_}
-use mathlib.Core.List.{List, [], _∷_, _++_}
+use mathlib.Core.List.{List, [], _++_}
 use mathlib.Core.Option.{some}
-use Prim.Native.Nat.{ℕ, zero, suc, _+_}
-use lib.ListN.{length, getD, replicate}
-use Rattle.theory.specs.Lists.{All}
-use Rattle.theory.specs.Tree.{node, ⟨⟩, _▹_, count}
-use Rattle.theory.specs.Level.{plain, bindsIn}
-use Rattle.theory.specs.Term.{Kind, Leaf, Head, param, bound, declared, defined, builtin, leaf, Term, Terms, binder, Arities, noDefinitions, Fits, WellFormed, Reading, withDefined, meaning, eval, evals, values}
-use Rattle.theory.specs.Expand.{rebuild, expandHead, expand}
-use Rattle.theory.proofs.Fusion.{Looks, Anything, anywhere, fusion}
+use mathlib.Core.Path.{_∙_, _≡_, ap, refl, sym}
+use lib.ListN.{getD, length, replicate}
+use Prim.Native.Nat.{_+_, suc, ℕ}
+use Rattle.theory.proofs.Formed.{AllExpanded}
+use Rattle.theory.proofs.Fusion.{Anything, Looks, anywhere, fusion}
+use Rattle.theory.proofs.Lists.{append-all, getD-all, none-some, replicate-all}
 use Rattle.theory.proofs.Substitution.{substitution}
-use Rattle.theory.proofs.Formed.{none≢some, AllExpanded}
+use Rattle.theory.specs.Expand.{expand, expandHead, rebuild, templates}
+use Rattle.theory.specs.Level.{bindsIn, plain}
+use Rattle.theory.specs.Lists.{All}
+use Rattle.theory.specs.Term.{Arities, Fits, Head, Kind, Leaf, Reading, Term, Terms, WellFormed, binder, bound, builtin, declared, defined, eval, evals, leaf, meaning, noDefinitions, param, values, withDefined}
+use Rattle.theory.specs.Tree.{_▹_, count, node, ⟨⟩}
 
 -- A reading keeps what is good among its meanings, as "0 to 4" among numbers.
 pub record Keeps {A : Type 0} (M : Reading A) (Good : A → Type 0) : Type 0 where
@@ -22,19 +23,6 @@ pub record Keeps {A : Type 0} (M : Reading A) (Good : A → Type 0) : Type 0 whe
   pub looks : Looks M Good
 
 module _ {A : Type 0} where
-  pub getD-all : (P : A → Type 0) (xs : List A) (i : ℕ) (u : A) → All P xs → P u → P (getD xs i u)
-  getD-all P [] i u a p = p
-  getD-all P (x ∷ xs) zero u a p = a .0
-  getD-all P (x ∷ xs) (suc i) u a p = getD-all P xs i u (a .1) p
-
-  pub append-all : (P : A → Type 0) (xs ys : List A) → All P xs → All P ys → All P (xs ++ ys)
-  append-all P [] ys a b = b
-  append-all P (x ∷ xs) ys a b = (a .0, append-all P xs ys (a .1) b)
-
-  replicate-all : (P : A → Type 0) (m : ℕ) (x : A) → P x → All P (replicate m x)
-  replicate-all P zero x p = tt
-  replicate-all P (suc m) x p = (p, replicate-all P m x p)
-
   pub length-evals : (M : Reading A) (ρ β : List A) (v : A) (s : ℕ → ℕ) (ts : Terms) → length (evals M ρ β v s ts) ≡ count ts
   length-evals M ρ β v s ⟨⟩ = refl
   length-evals M ρ β v s (t ▹ ts) = ap suc (length-evals M ρ β v (λ i. s (suc i)) ts)
@@ -70,7 +58,7 @@ module _ {A : Type 0} where
       step G d k b b′ (param i) ts r w = refl
       step G d k b b′ (bound j) ts r w = ap (λ (l : List A). getD l j (M .unknown)) (sym r)
       step G d k b b′ (declared c x) ts r w = refl
-      step G d k b b′ (defined g) ts r w = none≢some (count ts) w
+      step G d k b b′ (defined g) ts r w = none-some (count ts) w
       step G d k b b′ (builtin c) ts r w = refl
       step G d k b b′ (leaf l) ts r w = refl
 

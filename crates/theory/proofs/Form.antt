@@ -1,14 +1,14 @@
 -- Linear forms: a base and a weight for each parameter. The size of an expansion is one, and forms are all that a definition has to remember.
-use mathlib.Core.Path.{_≡_, refl, ap, ap₂, sym, _∙_}
-use mathlib.Core.List.{List, [], _∷_, _++_, map}
-use Prim.Native.Nat.{ℕ, zero, suc, _+_, _*_, _<_, _≤_}
-use native.Mathlib.Nat.{zero-add, add-zero, mul-zero}
-use native.Mathlib.Omega.{arith}
-use lib.ListN.{length, getD, take, drop, replicate}
+use mathlib.Core.List.{List, [], _++_, _∷_, map}
+use mathlib.Core.Path.{_∙_, _≡_, ap, ap₂, refl, sym}
+use lib.ListN.{drop, getD, length, replicate, take}
 use lib.Seq.{drop-cons, take-length}
-use Rattle.theory.specs.Term.{Reading, withDefined, Term, eval}
+use native.Mathlib.Nat.{add-zero, mul-zero, zero-add}
+use native.Mathlib.Omega.{arith}
+use Prim.Native.Nat.{_*_, _+_, _<_, _≤_, suc, zero, ℕ}
 use Rattle.theory.proofs.Hom.{Carries, carry}
-use Rattle.theory.proofs.Size.{sum, sizes}
+use Rattle.theory.proofs.Size.{sizes, sum}
+use Rattle.theory.specs.Term.{Reading, Term, eval, withDefined}
 
 pub record Form : Type 0 where
   pub base : ℕ

@@ -1,21 +1,18 @@
 -- Expansion keeps terms well formed: what is left has no defined name, its parameters and bound indices are known, its argument counts right.
-use mathlib.Core.Path.{_≡_, refl, ap, ap₂, sym, subst, _∙_}
-use mathlib.Core.Bool.{Bool, true, false, cond}
-use mathlib.Core.Option.{Option, none, some}
-use Prim.Native.Nat.{ℕ, zero, suc, _+_, _<_, _≤_}
-use native.Mathlib.Nat.{zero-add, not-suc-le-zero, le-of-suc-le-suc}
-use native.Mathlib.Omega.{arith}
+use mathlib.Core.Bool.{Bool, cond, false, true}
+use mathlib.Core.Option.{some}
+use mathlib.Core.Path.{_∙_, _≡_, ap, ap₂, refl, subst, sym}
 use lib.Dec.{ltb}
-use Rattle.theory.specs.Tree.{⟨⟩, _▹_, count, nth, join}
-use Rattle.theory.specs.Level.{plain, bindsIn}
-use Rattle.theory.specs.Term.{Kind, kindArity, Head, param, bound, declared, defined, builtin, leaf, Term, Terms, binder, Every, Everys, Arities, noDefinitions, Fits, WellFormed}
-use Rattle.theory.specs.Expand.{shiftHead, shift, nothing, putInHead, putIn, expandHead, expand, paramsFrom, itself, instanceHead, instantiate}
+use native.Mathlib.Nat.{le-of-suc-le-suc, not-suc-le-zero, zero-add}
+use native.Mathlib.Omega.{arith}
+use Prim.Native.Nat.{_+_, _<_, _≤_, suc, zero, ℕ}
 use Rattle.theory.proofs.Fusion.{preserved}
+use Rattle.theory.proofs.Lists.{none-some}
 use Rattle.theory.proofs.Substitution.{count-join, count-params}
-
--- no definition is known
-pub none≢some : {B : Type 0} (m : ℕ) → _≡_ {A = Option ℕ} none (some m) → B
-none≢some m e = let z : _≡_ {A = ℕ} 0 1 = cc in absurd (omega arith)
+use Rattle.theory.specs.Expand.{expand, expandHead, instanceHead, instantiate, itself, nothing, paramsFrom, putIn, putInHead, shift, shiftHead, templates}
+use Rattle.theory.specs.Level.{bindsIn, plain}
+use Rattle.theory.specs.Term.{Arities, Every, Everys, Fits, Head, Kind, Term, Terms, WellFormed, binder, bound, builtin, declared, defined, kindArity, leaf, noDefinitions, param}
+use Rattle.theory.specs.Tree.{_▹_, count, join, nth, ⟨⟩}
 
 module _ (P : ℕ → Head → ℕ → Type 0) (k : ℕ) where
   nth-every : (us : Terms) (i : ℕ) → Everys P k (bindsIn plain) us → i < count us → Every P k (nth nothing us i)
@@ -27,7 +24,7 @@ module _ (P : ℕ → Head → ℕ → Type 0) (k : ℕ) where
   join-every ⟨⟩ us v w = w
   join-every (t ▹ ts) us v w = (v .0, join-every ts us (v .1) w)
 
-params-every : (ar : Arities) (n k i p : ℕ) → i + p ≤ n → Everys (Fits ar n) k (bindsIn plain) (paramsFrom i p)
+pub params-every : (ar : Arities) (n k i p : ℕ) → i + p ≤ n → Everys (Fits ar n) k (bindsIn plain) (paramsFrom i p)
 params-every ar n k i zero h = tt
 params-every ar n k i (suc p) h = (((omega arith, refl), tt), params-every ar n k (suc i) p (omega arith))
 
@@ -58,7 +55,7 @@ putIn-formed ar n k us t ok =
     step d k₁ k′ (param i) ts q w es = rw (q .1) (shift-formed ar n d k (nth nothing us i) (nth-every (Fits ar n) k us i ok (w .0)))
     step d k₁ k′ (bound j) ts q w es = ((omega (arith, q .0, q .1, w .0), w .1), es)
     step d k₁ k′ (declared c x) ts q w es = (w, es)
-    step d k₁ k′ (defined g) ts q w es = none≢some (count ts) w
+    step d k₁ k′ (defined g) ts q w es = none-some (count ts) w
     step d k₁ k′ (builtin c) ts q w es = (w, es)
     step d k₁ k′ (leaf l) ts q w es = (w, es)
 
@@ -98,6 +95,6 @@ instantiate-formed σ p n k t ok =
         putIn-formed noDefinitions (p + n) k′ (join (paramsFrom 0 p) ts) (σ c x)
         (join-every (Fits noDefinitions (p + n)) k′ (paramsFrom 0 p) ts (params-every noDefinitions (p + n) k′ 0 p (omega arith)) es)
         (subst (λ (m : ℕ). WellFormed noDefinitions m 0 (σ c x)) (sym (count-join (paramsFrom 0 p) ts ∙ ap₂ _+_ (count-params 0 p) w)) (ok c x))
-    step d k k′ (defined g) ts q w es = none≢some (count ts) w
+    step d k k′ (defined g) ts q w es = none-some (count ts) w
     step d k k′ (builtin c) ts q w es = (w, es)
     step d k k′ (leaf l) ts q w es = (w, es)

@@ -1,17 +1,17 @@
 -- The length of an expansion from the forms of the definitions, in the order they are added.
-use mathlib.Core.Path.{_≡_, ap, sym, subst, fun-ext, _∙_}
 use mathlib.Core.List.{List, [], _∷_, map}
-use Prim.Native.Nat.{ℕ, _+_}
-use lib.ListN.{length, getD, replicate, length-replicate, List·getD-map}
-use Rattle.theory.specs.Term.{Term, withDefined, eval}
-use Rattle.theory.specs.Expand.{Definition, own, brought, Template, bodyIn, templateOf, templates, aritiesOf, summaryIn, expansion, Known}
-use Rattle.theory.proofs.Formed.{AllExpanded, expand-formed}
-use Rattle.theory.specs.Lists.{All}
+use mathlib.Core.Path.{_∙_, _≡_, ap, fun-ext, subst, sym}
+use lib.ListN.{List·getD-map, getD, length, length-replicate, replicate}
+use Prim.Native.Nat.{_+_, ℕ}
 use Rattle.theory.proofs.ExpandFirst.{Keeps}
-use Rattle.theory.proofs.Summary.{Lawful, AllLawful, Summarises, AllSummarise, rememberFrom, summarise-next, remember-all, by-summaries, templates-closed}
+use Rattle.theory.proofs.Form.{Form, form-exact, forms, only, units, value}
+use Rattle.theory.proofs.Formed.{AllExpanded, expand-formed}
+use Rattle.theory.proofs.Size.{sizes, sum, written-length}
+use Rattle.theory.proofs.Summary.{AllLawful, AllSummarise, Lawful, Summarises, by-summaries, remember-all, rememberFrom, summarise-next, templates-closed}
 use Rattle.theory.proofs.Write.{write}
-use Rattle.theory.proofs.Size.{sum, sizes, written-length}
-use Rattle.theory.proofs.Form.{Form, value, only, units, forms, form-exact}
+use Rattle.theory.specs.Expand.{Definition, Known, Template, aritiesOf, bodyIn, brought, expansion, own, summaryIn, templateOf, templates}
+use Rattle.theory.specs.Lists.{All}
+use Rattle.theory.specs.Term.{Term, eval, withDefined}
 
 abbrev pub formIn : List Form → ℕ → Form
 formIn fs g = getD fs g (only 0)

@@ -1,22 +1,19 @@
 -- All levels are 0 to 4: the table's own, and so what it makes of levels.
-use mathlib.Core.Path.{ap}
+use mathlib.Core.Bool.{Bool, _&&_, cond, false, true}
 use mathlib.Core.List.{List, [], _∷_}
-use mathlib.Core.Bool.{Bool, true, false, cond, _&&_}
 use mathlib.Core.Option.{Option, none, some}
-use Prim.Native.Nat.{ℕ, _≤_}
-use native.Mathlib.Nat.{max-le}
+use mathlib.Core.Path.{ap}
 use lib.Dec.{T, leb, leb→le, lit≤}
-use Rattle.theory.specs.Level.{Result, theHighest, always, Row, table, has, row, allTaken, rowLevel, resultLevel, rowBinder, variableLevel, builtinLevel, boundLevel, highest}
-use Rattle.theory.specs.Term.{Kind, constant, variable, declaredLevel, Leaf, literal, leafLevel, longWay}
-use Rattle.theory.specs.Lists.{All, find}
+use native.Mathlib.Nat.{max-le}
+use Prim.Native.Nat.{_≤_, ℕ}
 use Rattle.theory.proofs.ExpandFirst.{Keeps}
+use Rattle.theory.proofs.Lists.{and-parts}
+use Rattle.theory.specs.Level.{Result, Row, allTaken, always, boundLevel, builtinLevel, has, highest, resultLevel, row, rowBinder, rowLevel, table, theHighest, variableLevel}
+use Rattle.theory.specs.Lists.{All, find}
+use Rattle.theory.specs.Term.{Kind, Leaf, constant, declaredLevel, leafLevel, literal, longWay, variable}
 
 abbrev pub IsLevel : ℕ → Type 0
 IsLevel l = l ≤ 4
-
-and-split : (a b : Bool) → T (a && b) → T a × T b
-and-split true b t = (tt, t)
-and-split false b t = absurd t
 
 highest-level : (ls : List ℕ) → All IsLevel ls → IsLevel (highest ls)
 highest-level [] a = lit≤ tt
@@ -40,10 +37,10 @@ LowFound (some r) = T (lowRow r)
 
 low-find : (c : ℕ) (rs : List Row) → T (lowRows rs) → LowFound (find (has c) rs)
 low-find c [] t = tt
-low-find c (r ∷ rs) t = go (has c r) (low-find c rs (and-split (lowRow r) (lowRows rs) t .1))
+low-find c (r ∷ rs) t = go (has c r) (low-find c rs (and-parts (lowRow r) (lowRows rs) t .1))
   where
     go : (b : Bool) → LowFound (find (has c) rs) → LowFound (cond b (some r) (find (has c) rs))
-    go true f = and-split (lowRow r) (lowRows rs) t .0
+    go true f = and-parts (lowRow r) (lowRows rs) t .0
     go false f = f
 
 low-row : (c : ℕ) → LowFound (row c)
@@ -59,12 +56,12 @@ row-level none ls f a = lit≤ tt
 row-level (some r) ls f a = go (allTaken (r .takes) ls)
   where
     go : (b : Bool) → IsLevel (cond b (resultLevel (r .result) ls) 4)
-    go true = result-level (r .result) ls (and-split (lowResult (r .result)) (leb (variableLevel (r .binder)) 4) f .0) a
+    go true = result-level (r .result) ls (and-parts (lowResult (r .result)) (leb (variableLevel (r .binder)) 4) f .0) a
     go false = lit≤ tt
 
 row-variable : (o : Option Row) → LowFound o → IsLevel (variableLevel (rowBinder o))
 row-variable none f = lit≤ tt
-row-variable (some r) f = leb→le (variableLevel (r .binder)) 4 (and-split (lowResult (r .result)) (leb (variableLevel (r .binder)) 4) f .1)
+row-variable (some r) f = leb→le (variableLevel (r .binder)) 4 (and-parts (lowResult (r .result)) (leb (variableLevel (r .binder)) 4) f .1)
 
 pub bound-level : (c : ℕ) → IsLevel (boundLevel c)
 bound-level c = row-variable (row c) (low-row c)

@@ -1,3 +1,5 @@
+-- Tests and lists
+pub mod Lists
 -- The one induction, and what follows for any reading
 pub mod Fusion
 pub mod Substitution

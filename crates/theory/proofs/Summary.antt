@@ -1,15 +1,16 @@
 -- Definitions in the order they are added: the summary of each, own or brought, says what its template means; and so demand 3, for any reading.
-use mathlib.Core.Path.{_≡_, refl, ap, sym, subst, _∙_}
-use mathlib.Core.List.{List, [], _∷_, _++_, map}
+use mathlib.Core.List.{List, [], _++_, _∷_, map}
 use mathlib.Core.Option.{some}
-use Prim.Native.Nat.{ℕ, zero, suc, _+_}
-use lib.ListN.{length, getD}
-use Rattle.theory.specs.Term.{Kind, kindArity, Term, Arities, noDefinitions, WellFormed, Reading, withDefined, eval}
-use Rattle.theory.specs.Expand.{Definition, own, brought, Template, noTemplate, bodyIn, templateOf, templatesFrom, aritiesOf, summaryIn, summaryOf, summariesFrom, expand, instantiate}
-use Rattle.theory.proofs.Substitution.{substituted, instantiation}
-use Rattle.theory.proofs.Formed.{none≢some, AllExpanded, expand-formed, instantiate-formed}
+use mathlib.Core.Path.{_∙_, _≡_, ap, refl, subst, sym}
+use lib.ListN.{getD, length}
+use Prim.Native.Nat.{_+_, suc, zero, ℕ}
+use Rattle.theory.proofs.ExpandFirst.{Keeps, eval-good, expand-first, no-defined}
+use Rattle.theory.proofs.Formed.{AllExpanded, expand-formed, instantiate-formed}
+use Rattle.theory.proofs.Lists.{append-all, none-some}
+use Rattle.theory.proofs.Substitution.{instantiation, substituted}
+use Rattle.theory.specs.Expand.{Definition, Template, aritiesOf, bodyIn, brought, expand, instantiate, noTemplate, own, summariesFrom, summaryIn, summaryOf, templateOf, templatesFrom}
 use Rattle.theory.specs.Lists.{All}
-use Rattle.theory.proofs.ExpandFirst.{Keeps, append-all, eval-good, no-defined, expand-first}
+use Rattle.theory.specs.Term.{Arities, Kind, Reading, Term, WellFormed, eval, kindArity, noDefinitions, withDefined}
 
 -- what is remembered of each definition, worked out from what is remembered of those before it
 abbrev pub rememberFrom : {S : Type 0} → (List Template → List S → Definition → S) → List Template → List S → List Definition → List S
@@ -54,14 +55,14 @@ module _ {A : Type 0} (M : Reading A) (Good : A → Type 0) (keeps : Keeps M Goo
   summarise-snoc (t′ ∷ ts) (s′ ∷ ss) t s a b = (a .0, summarise-snoc ts ss t s (a .1) b)
 
   pub templates-closed : (ts : List Template) (ss : List (List A → A)) → AllSummarise ts ss → AllExpanded (aritiesOf ts) (bodyIn ts)
-  templates-closed [] ss a g m e = none≢some m e
+  templates-closed [] ss a g m e = none-some m e
   templates-closed (t ∷ ts) [] a g m e = absurd a
   templates-closed (t ∷ ts) (s ∷ ss) a zero m e = subst (λ (n : ℕ). WellFormed noDefinitions n 0 (t .body)) (some-injective (t .params) m e) (a .0 .formed)
   templates-closed (t ∷ ts) (s ∷ ss) a (suc g) m e = templates-closed ts ss (a .1) g m e
 
   pub summary-exact : (ts : List Template) (ss : List (List A → A)) → AllSummarise ts ss → (g : ℕ) (vs : List A) → aritiesOf ts g ≡ some (length vs) → All Good vs
       → summaryIn M ss g vs ≡ eval M vs [] (bodyIn ts g)
-  summary-exact [] ss a g vs e good = none≢some (length vs) e
+  summary-exact [] ss a g vs e good = none-some (length vs) e
   summary-exact (t ∷ ts) [] a g vs e good = absurd a
   summary-exact (t ∷ ts) (s ∷ ss) a zero vs e good = a .0 .exact vs (sym (some-injective (t .params) (length vs) e)) good
   summary-exact (t ∷ ts) (s ∷ ss) a (suc g) vs e good = summary-exact ts ss (a .1) g vs e good
