@@ -1,4 +1,5 @@
 -- An expression in which causes 3, 9 and 10 find nothing resolves to a well formed term.
+use borrow.Author.Tests.{leb-false}
 use mathlib.Core.Bool.{false, not}
 use mathlib.Core.Option.{Option, none, some}
 use mathlib.Core.Path.{_∙_, _≡_, ap, refl, sym}
@@ -7,7 +8,7 @@ use Prim.Native.Nat.{_+_, suc, ℕ}
 use Rattle.rules.specs.Expression.{Expression, Laid, LaidAll, Token, TokenFits, bound-variable, built-in, expression, instance-operator, numeral, operator, parameter, somewhere, somewheres, tokenArity, tokenBinder, tokensOf, tokensOfAll}
 use Rattle.rules.specs.Judge.{miscounted, miscountedHead, unknown, unknownHead}
 use Rattle.rules.specs.State.{Context, Entry, State, broughtNamed, declares, defines, entryNamed, headOf, instances, operatorOf, paramsOf, resolve}
-use Rattle.theory.proofs.Lists.{leb-false, never, not-false, or-false, split-all}
+use Rattle.theory.proofs.Lists.{never, not-false, or-false, split-all}
 use Rattle.theory.specs.Level.{bindsIn, codeArity, plain}
 use Rattle.theory.specs.Lists.{All, bindOption, isSome, mapOption, orElse}
 use Rattle.theory.specs.Term.{Arities, Every, Everys, Fits, WellFormed, binder, defined, kindArity, leaf, literal}

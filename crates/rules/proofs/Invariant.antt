@@ -97,14 +97,14 @@ token-known s Γ h (built-in c) g e = absurd (let z : _≡_ {A = ℕ} 0 1 = cc i
 token-known s Γ h (numeral v) g e = absurd (let z : _≡_ {A = ℕ} 0 1 = cc in omega arith)
 
 -- the parameter counts of the definitions that are there
-pub counted : (s : State) → SoundFrom [] (s .definitions) → (g : ℕ) → g < length (s .definitions) → aritiesOf (templatesOf s) g ≡ some (paramsOf s g)
-counted s h g l = subst (λ (i : ℕ). aritiesOf (templatesOf s) i ≡ some (paramsOf s g)) (zero-add g) (params-known [] (s .definitions) g h l)
+pub arity-known : (s : State) → SoundFrom [] (s .definitions) → (g : ℕ) → g < length (s .definitions) → aritiesOf (templatesOf s) g ≡ some (paramsOf s g)
+arity-known s h g l = subst (λ (i : ℕ). aritiesOf (templatesOf s) i ≡ some (paramsOf s g)) (zero-add g) (params-known [] (s .definitions) g h l)
 
 -- an expression that clears 3, 9 and 10 in a good state resolves to a well formed term
 pub clear-in : (s : State) (Γ : Context) (n : ℕ) (e : Expression) → SoundFrom [] (s .definitions) → All (EntryKnown (length (s .definitions))) Γ → expression .Fits e
     → unknown s Γ n e ≡ false → miscounted s Γ e ≡ false → WellFormed (aritiesOf (templatesOf s)) n 0 (resolve s Γ e)
 clear-in s Γ n e h k f u w =
-    clear s Γ n (aritiesOf (templatesOf s)) (λ t g i. counted s h g (token-known s Γ k t g i)) e f u w
+    clear s Γ n (aritiesOf (templatesOf s)) (λ t g i. arity-known s h g (token-known s Γ k t g i)) e f u w
 
 -- Substitutes
 
@@ -143,8 +143,8 @@ module _ (s : State) (sound : SoundFrom [] (s .definitions)) (known : All (Entry
           → WellFormed (aritiesOf (templatesOf s)) (p + kindArity k) 0 (substituteOr s p k x none)
       finish k u w = (
         subst (λ (m : ℕ). Fits (aritiesOf (templatesOf s)) (p + kindArity k) 0 (orElse (leaf (literal 0)) (operatorNamed (here s) x)) m) (sym (count-params p (kindArity k)))
-            (operator-fits s (here s) (p + kindArity k) (aritiesOf (templatesOf s)) (λ t g i. counted s sound g (token-known s (here s) known t g i)) (entryNamed x (here s)) 0 (kindArity k)
-            (λ g i. counted s sound g (token-known s (here s) known (operator x 0) g i)) (operator-known (p + kindArity k) 0 (entryNamed x (here s)) u) w),
+            (operator-fits s (here s) (p + kindArity k) (aritiesOf (templatesOf s)) (λ t g i. arity-known s sound g (token-known s (here s) known t g i)) (entryNamed x (here s)) 0 (kindArity k)
+            (λ g i. arity-known s sound g (token-known s (here s) known (operator x 0) g i)) (operator-known (p + kindArity k) 0 (entryNamed x (here s)) u) w),
         subst (λ (b : Binder). Everys (Fits (aritiesOf (templatesOf s)) (p + kindArity k)) 0 (bindsIn b) (paramsFrom p (kindArity k))) (sym (plain-operator (entryNamed x (here s))))
             (params-every (aritiesOf (templatesOf s)) (p + kindArity k) 0 p (kindArity k) (omega arith)),
       )
@@ -193,7 +193,7 @@ module _ (s : State) (sound : SoundFrom [] (s .definitions)) (n p : ℕ) (M : Mo
   template-params : (g : ℕ) → g < length (s .definitions) → (getD (templatesOf s) g noTemplate) .params ≡ paramsOf s g
   template-params g l =
       let a = arities-at (templatesOf s) g (rw (length-templates [] (s .definitions)) (omega arith)) in
-      let b = counted s sound g l in
+      let b = arity-known s sound g l in
       cc
 
   brought-sound : (gs : List ℕ) (us : List Template) → All (λ g. g < length (s .definitions)) gs → SoundFrom (templatesOf s ++ us) (map (broughtOne s n p M ss) gs)

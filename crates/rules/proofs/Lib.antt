@@ -11,3 +11,9 @@ pub mod Running
 pub mod Clear
 pub mod Sound
 pub mod Invariant
+pub mod Within
+pub mod Memory
+pub mod Checks
+-- Demand 3
+pub mod Replacing
+pub mod Demand3

@@ -3,7 +3,7 @@ use mathlib.Core.Bool.{Bool, _&&_, _||_, cond, false, not, true}
 use mathlib.Core.List.{List, [], _++_, _∷_}
 use mathlib.Core.Option.{Option, none, some}
 use mathlib.Core.Path.{_≡_, refl, subst, sym}
-use lib.Dec.{T, leb, nleb→lt}
+use lib.Dec.{T}
 use lib.ListN.{getD, length, replicate}
 use native.Mathlib.Omega.{arith}
 use Prim.Native.Nat.{_<_, suc, zero, ℕ}
@@ -22,13 +22,6 @@ or-false false b e = (refl, e)
 pub not-false : (a : Bool) → not a ≡ false → T a
 not-false true e = tt
 not-false false e = never e
-
-pub false-not : (a : Bool) → a ≡ false → T (not a)
-false-not true e = never e
-false-not false e = tt
-
-pub leb-false : (m n : ℕ) → leb m n ≡ false → n < m
-leb-false m n e = nleb→lt m n (false-not (leb m n) e)
 
 pub and-parts : (a b : Bool) → T (a && b) → T a × T b
 and-parts true b t = (tt, t)

@@ -67,7 +67,7 @@ module _ {A : Type 0} (M : Reading A) (Good : A → Type 0) (keeps : Keeps M Goo
   summary-exact (t ∷ ts) (s ∷ ss) a zero vs e good = a .0 .exact vs (sym (some-injective (t .params) (length vs) e)) good
   summary-exact (t ∷ ts) (s ∷ ss) a (suc g) vs e good = summary-exact ts ss (a .1) g vs e good
 
-  summary-good : (ts : List Template) (ss : List (List A → A)) → AllSummarise ts ss → (g : ℕ) (vs : List A) → All Good vs → Good (summaryIn M ss g vs)
+  pub summary-good : (ts : List Template) (ss : List (List A → A)) → AllSummarise ts ss → (g : ℕ) (vs : List A) → All Good vs → Good (summaryIn M ss g vs)
   summary-good ts [] a g vs good = keeps .looks .unknown
   summary-good [] (s ∷ ss) a g vs good = absurd a
   summary-good (t ∷ ts) (s ∷ ss) a zero vs good = a .0 .kept vs good
