@@ -3,32 +3,34 @@
 --
 -- `checked file memory ≡ result s` says that a call accepts the file; s is what its fields add. A module is one of s's ended modules, found by
 -- name. `longWay` is the reading with no card; `expansionOf s t` is t with every defined name replaced.
-use borrow.Author.Tests.{leb-false, lt-leb}
+use borrow.Author.Tests.{leb-false, lt-leb, lt-ltb}
 use mathlib.Core.Bool.{Bool, false}
 use mathlib.Core.List.{List, [], _∷_}
 use mathlib.Core.Option.{Option, none, some}
-use mathlib.Core.Path.{_∙_, _≡_, ap, refl, sym}
+use mathlib.Core.Path.{_∙_, _≡_, ap, refl, subst, sym}
 use lib.Dec.{eqb, leb}
 use lib.ListN.{getD, length}
 use native.Mathlib.Omega.{arith}
 use Prim.Native.Nat.{_*_, _+_, _<_, ℕ}
-use Rattle.limits.specs.Limits.{cardBytes, levelCount}
+use Rattle.limits.specs.Limits.{cardBytes, expansionBytes, levelCount}
 use Rattle.rules.proofs.Causes.{NoneHolds, none-holds}
 use Rattle.rules.proofs.Checks.{reached-check, refusal-result, result-injective}
 use Rattle.rules.proofs.Expressions.{expression-back}
 use Rattle.rules.proofs.Formats.{some-injective}
 use Rattle.rules.proofs.Invariant.{Good, ModuleKnown, arity-known, clear-in}
 use Rattle.rules.proofs.Memory.{card-says}
+use Rattle.rules.proofs.Quoting.{quote-length}
 use Rattle.rules.proofs.Replacing.{cards-keep, expansion-of-name, known-below, nameAtParams, same-level}
 use Rattle.rules.proofs.Sound.{all-lawful, length-templates}
 use Rattle.rules.proofs.Within.{Within}
 use Rattle.rules.specs.Expression.{Expression, expression, overArity}
 use Rattle.rules.specs.Judge.{causes, expressionCauses, firstCause}
-use Rattle.rules.specs.Query.{levelQuery, levelReply, orNoSuch, queryCauses, queryTerm, readIn, unlessCause}
-use Rattle.rules.specs.Run.{Outcome, andThen, check, checked, memoryAfter, result}
+use Rattle.rules.specs.Query.{ExpansionAnswer, expansionBytesOf, expansionQuery, levelQuery, levelReply, orNoSuch, outputAfter, queryCauses, queryTerm, quote, readIn, unlessCause, unlessLonger}
+use Rattle.rules.specs.Run.{Outcome, andThen, check, checked, memoryAfter, refusal, result}
 use Rattle.rules.specs.State.{Module, State, cardLevel, expansionOf, levelOf, meanings, moduleNamed, paramsOf, resolve, templatesOf}
 use Rattle.theory.proofs.Bytes.{bytes}
 use Rattle.theory.proofs.Demand3.{both-ways, card-exact, expansion-formed}
+use Rattle.theory.proofs.Index.{far-index, reach}
 use Rattle.theory.proofs.Levels.{IsLevel}
 use Rattle.theory.proofs.Lists.{find-has, or-false}
 use Rattle.theory.proofs.Summary.{AllLawful}
@@ -175,3 +177,25 @@ module _ (file memory : List ℕ) (s : State) (accepted : checked file memory �
       let a = low-levels ρ (c .0) in
       let same : result (longWayLevel s ρ (termOf s m (length ρ) bytes b)) ≡ result l = sym (level-query m ρ bytes b a) ∙ e in
       (b, a, sym (result-injective _ _ same))
+
+  -- EXPANSIONS. "Its expansion, ill-levelled or not, with its length": for an expression that belongs to demand 3 an expansion query replies with the
+  -- length of the true expansion's bytes and writes them, or is refused with 18 exactly when they are longer than the output or 65,535.
+  pub expansion-query : (m n : ℕ) (bytes output : List ℕ) (b : Belongs s m n bytes)
+      → expansionQuery file memory m n bytes output
+      ≡ (let true-bytes = expansionBytesOf s (termOf s m n bytes b) in
+      record {
+        reply = andThen (unlessLonger true-bytes (length output)) λ w. result (length w);
+        memory = check file memory .memory;
+        output = outputAfter (unlessLonger true-bytes (length output)) output;
+      })
+  expansion-query m n bytes output b = rw (accepted, b .ended, b .clear₃, b .clear .0, b .clear .1 .0, b .clear .1 .1 .0, b .clear .1 .1 .1 .0)
+
+  -- "A moved bound index may there pass two bytes; an expansion that holds one is always over 65,535 bytes, so a query for it is 18."
+  pub far-index-is-18 : (m n : ℕ) (bytes output : List ℕ) (b : Belongs s m n bytes) → 65536 < reach (expansionOf s (termOf s m n bytes b))
+      → expansionQuery file memory m n bytes output .reply ≡ refusal 18 0
+  far-index-is-18 m n bytes output b h =
+      let t = expansionOf s (termOf s m n bytes b) in
+      let w = expansion-closed m n bytes b in
+      let l : expansionBytes < length (expression .write (quote t)) = subst (λ (k : ℕ). expansionBytes < k) (sym (quote-length t n 0 w)) (far-index t noDefinitions n w h) in
+      let longer : unlessLonger (expression .write (quote t)) (length output) ≡ refusal 18 0 = rw (lt-ltb expansionBytes (length (expression .write (quote t))) l) in
+      ap (λ (x : ExpansionAnswer). x .reply) (expansion-query m n bytes output b) ∙ ap (λ (x : Outcome (List ℕ)). andThen x λ w. result (length w)) longer

@@ -15,5 +15,7 @@ pub mod Within
 pub mod Memory
 pub mod Checks
 -- Demand 3
+pub mod Heads
+pub mod Quoting
 pub mod Replacing
 pub mod Demand3
