@@ -1,0 +1,30 @@
+//! A plain reference implementation of the level checker for TLA+ modules: it judges a tagged
+//! file, fills one level card per definition, answers levels, and expands expressions.
+
+#![forbid(unsafe_code)]
+
+mod context;
+mod expansion;
+mod expressions;
+mod fields;
+mod judge;
+mod levels;
+mod limits;
+mod listing;
+mod long_way;
+mod packed;
+mod queries;
+mod refusal;
+mod rows;
+mod summaries;
+
+#[cfg(test)]
+mod tests;
+
+pub use limits::Limits;
+pub use listing::listing;
+pub use packed::{packed_alike, packed_body, packed_check, packed_expand, packed_level};
+pub use queries::{
+    alike, body, check, expand, level, long_way, long_way_definition, long_way_expansion,
+};
+pub use refusal::{Cause, Refusal};

@@ -1,0 +1,42 @@
+//! Causes and refusals.
+
+/// What can be wrong with a file or a query, in the order of the causes' numbers.
+#[derive(Clone, Copy, Debug, PartialEq, Eq, PartialOrd, Ord)]
+#[repr(u32)]
+pub enum Cause {
+    CardMemory = 1,
+    FileSize = 2,
+    Layout = 3,
+    Order = 4,
+    Limit = 5,
+    ModuleNameUsed = 6,
+    ModuleNotEnded = 7,
+    NameTaken = 8,
+    Unknown = 9,
+    ArgumentCount = 10,
+    Substitution = 11,
+    NotLevelCorrect = 12,
+    AssumeLevel = 13,
+    SubstituteLevel = 14,
+    BroughtLevel = 15,
+    NamedInstance = 16,
+    NoSuch = 17,
+    TooLong = 18,
+}
+
+impl Cause {
+    /// The refusal for this cause at a place.
+    pub fn at(self, place: usize) -> Refusal {
+        Refusal {
+            number: self as u32,
+            place: place as u32,
+        }
+    }
+}
+
+/// A numbered refusal and its place.
+#[derive(Clone, Copy, Debug, PartialEq, Eq)]
+pub struct Refusal {
+    pub number: u32,
+    pub place: u32,
+}

@@ -1,0 +1,9 @@
+//! Tests.
+
+mod build;
+mod causes;
+mod gen;
+mod hostile;
+mod memory;
+mod random;
+mod trial;
