@@ -10,16 +10,11 @@ use Prim.Native.Nat.{_≤_, ℕ}
 use Rattle.limits.specs.Limits.{cardMemoryBytes, fileBytes}
 use Rattle.rules.proofs.Accept.{Accepts, fields-accepted}
 use Rattle.rules.proofs.Memory.{length-cards, overwrite-length}
-use Rattle.rules.proofs.Within.{Reached, reached-file}
+use Rattle.rules.proofs.Replies.{not-result}
+use Rattle.rules.proofs.Within.{within-file}
 use Rattle.rules.specs.Bytes.{isEmpty}
 use Rattle.rules.specs.Run.{Outcome, cardsFrom, checked, judgeFile, leavesAll, memoryAfter, overwrite, refusal, result}
 use Rattle.rules.specs.State.{State, start}
-
-pub refusal-result : {A B : Type 0} (c p : ℕ) (a : A) → refusal c p ≡ result a → B
-refusal-result c p a e = absurd (let z : _≡_ {A = ℕ} 0 1 = cc in omega arith)
-
-pub result-injective : {A : Type 0} (a b : A) → result a ≡ result b → a ≡ b
-result-injective a b e = cc
 
 -- The causes of a whole call before its fields: enough card memory, and a file that is neither empty nor over its limit.
 pub record Fit (file memory : List ℕ) : Type 0 where
@@ -38,18 +33,15 @@ lawful-when-accepted file memory s e = go (ltb (length memory) cardMemoryBytes) 
   where
     go : (a b c : Bool) → ltb (length memory) cardMemoryBytes ≡ a → isEmpty file ≡ b → ltb fileBytes (length file) ≡ c
         → cond a (refusal 1 0) (cond (b || c) (refusal 2 0) (judgeFile file)) ≡ result s → Fit file memory × (judgeFile file ≡ result s)
-    go true b c p q r e = refusal-result 1 0 s e
-    go false true c p q r e = refusal-result 2 0 s e
-    go false false true p q r e = refusal-result 2 0 s e
+    go true b c p q r e = not-result 1 0 s e
+    go false true c p q r e = not-result 2 0 s e
+    go false false true p q r e = not-result 2 0 s e
     go false false false p q r e =
         (record { room = ltb-false (length memory) cardMemoryBytes p; some-bytes = q; not-over = ltb-false fileBytes (length file) r }, e)
 
 -- a file that a call accepts is accepted by its fields
 pub by-fields : (file memory : List ℕ) (s : State) → checked file memory ≡ result s → judgeFile file ≡ result s
 by-fields file memory s e = lawful-when-accepted file memory s e .1
-
-pub reached-check : (file memory : List ℕ) (s : State) → checked file memory ≡ result s → Reached s
-reached-check file memory s e = reached-file file s (by-fields file memory s e)
 
 -- The lent memory keeps its length, whatever the file, by whatever operation.
 pub memory-length : (file memory : List ℕ) → length (memoryAfter (checked file memory) memory) ≡ length memory
@@ -68,7 +60,7 @@ memory-length file memory = go (ltb (length memory) cardMemoryBytes) refl (check
     go : (b : Bool) → ltb (length memory) cardMemoryBytes ≡ b → (v : Outcome State) → checked file memory ≡ v → length (memoryAfter v memory) ≡ length memory
     go b p (result s) q =
         let (fit, fields) = lawful-when-accepted file memory s q in
-        let w = reached-file file s fields .within in
+        let w = within-file file s fields in
         overwrite-length (cardsFrom s 0 (s .definitions)) memory
         (rw (length-cards s w 0 (s .definitions) (omega arith)) (omega (arith, fit .room, w .definitions)))
     go true p (refusal c q′) q = ap (λ (c : ℕ). length (memoryAfter (refusal c q′) memory)) (short p c q′ q)

@@ -6,26 +6,27 @@
 use borrow.Author.Tests.{leb-false, lt-leb, lt-ltb}
 use mathlib.Core.Bool.{Bool, false}
 use mathlib.Core.List.{List, [], _∷_}
-use mathlib.Core.Option.{Option, none, some}
+use mathlib.Core.Option.{Option, some}
 use mathlib.Core.Path.{_∙_, _≡_, ap, refl, subst, sym}
 use lib.Dec.{eqb, leb}
 use lib.ListN.{getD, length}
 use native.Mathlib.Omega.{arith}
 use Prim.Native.Nat.{_*_, _+_, _<_, ℕ}
 use Rattle.limits.specs.Limits.{cardBytes, expansionBytes, levelCount}
-use Rattle.rules.proofs.Causes.{NoneHolds, none-holds}
-use Rattle.rules.proofs.Checks.{reached-check, refusal-result, result-injective}
+use Rattle.rules.proofs.Causes.{NoneHolds}
+use Rattle.rules.proofs.Checks.{by-fields}
 use Rattle.rules.proofs.Expressions.{expression-back}
 use Rattle.rules.proofs.Formats.{some-injective}
-use Rattle.rules.proofs.Invariant.{Good, ModuleKnown, arity-known, clear-in}
+use Rattle.rules.proofs.Invariant.{Good, ModuleKnown, arity-known, clear-in, good-file}
 use Rattle.rules.proofs.Memory.{card-says}
 use Rattle.rules.proofs.Quoting.{quote-length}
 use Rattle.rules.proofs.Replacing.{cards-keep, expansion-of-name, known-below, nameAtParams, same-level}
+use Rattle.rules.proofs.Replies.{andThen-result, query-taken, result-injective}
 use Rattle.rules.proofs.Sound.{all-lawful, length-templates}
-use Rattle.rules.proofs.Within.{Within}
+use Rattle.rules.proofs.Within.{Within, within-file}
 use Rattle.rules.specs.Expression.{Expression, expression, overArity}
-use Rattle.rules.specs.Judge.{causes, expressionCauses, firstCause}
-use Rattle.rules.specs.Query.{ExpansionAnswer, expansionBytesOf, expansionQuery, levelQuery, levelReply, orNoSuch, outputAfter, queryCauses, queryTerm, quote, readIn, unlessCause, unlessLonger}
+use Rattle.rules.specs.Judge.{expressionCauses}
+use Rattle.rules.specs.Query.{ExpansionAnswer, expansionBytesOf, expansionQuery, levelQuery, levelReply, outputAfter, queryTerm, quote, unlessLonger}
 use Rattle.rules.specs.Run.{Outcome, andThen, check, checked, memoryAfter, refusal, result}
 use Rattle.rules.specs.State.{Module, State, cardLevel, expansionOf, levelOf, meanings, moduleNamed, paramsOf, resolve, templatesOf}
 use Rattle.theory.proofs.Bytes.{bytes}
@@ -71,34 +72,12 @@ low-levels (l ∷ ls) e =
     let r = or-false (leb levelCount l) (any (λ l. leb levelCount l) ls) e in
     (omega (arith, leb-false levelCount l (r .0)), low-levels ls (r .1))
 
--- a query that replies found its module, read its expression, and no cause held
-term-read : {A : Type 0} (s : State) (m : ℕ) (levels : List ℕ) (n : ℕ) (bytes : List ℕ) (f : Term → A) (a : A)
-    → andThen (queryTerm s m levels n bytes) (λ t. result (f t)) ≡ result a
-    → (M : Module) × (moduleNamed s m ≡ some M) × (x : Expression) × (expression .read bytes ≡ some x) × (firstCause (queryCauses s M levels n x) ≡ none)
-term-read {A} s m levels n bytes f a e = at-module (moduleNamed s m) refl e
-  where
-    by-cause : (M : Module) (x : Expression) (o : Option ℕ) → moduleNamed s m ≡ some M → expression .read bytes ≡ some x → firstCause (queryCauses s M levels n x) ≡ o
-        → andThen (unlessCause o (s .fields) (resolve s (M .context) x)) (λ t. result (f t)) ≡ result a
-        → (M : Module) × (moduleNamed s m ≡ some M) × (x : Expression) × (expression .read bytes ≡ some x) × (firstCause (queryCauses s M levels n x) ≡ none)
-    by-cause M x none p q r e = (M, p, x, q, r)
-    by-cause M x (some c) p q r e = refusal-result c (s .fields) a e
-
-    at-expression : (M : Module) (o : Option Expression) → moduleNamed s m ≡ some M → expression .read bytes ≡ o → andThen (readIn s M levels n o) (λ t. result (f t)) ≡ result a
-        → (M : Module) × (moduleNamed s m ≡ some M) × (x : Expression) × (expression .read bytes ≡ some x) × (firstCause (queryCauses s M levels n x) ≡ none)
-    at-expression M none p q e = refusal-result 3 (s .fields) a e
-    at-expression M (some x) p q e = by-cause M x (firstCause (queryCauses s M levels n x)) p q refl e
-
-    at-module : (o : Option Module) → moduleNamed s m ≡ o → andThen (andThen (orNoSuch o) λ M. readIn s M levels n (expression .read bytes)) (λ t. result (f t)) ≡ result a
-        → (M : Module) × (moduleNamed s m ≡ some M) × (x : Expression) × (expression .read bytes ≡ some x) × (firstCause (queryCauses s M levels n x) ≡ none)
-    at-module none p e = refusal-result 17 0 a e
-    at-module (some M) p e = at-expression M (expression .read bytes) p refl e
-
 module _ (file memory : List ℕ) (s : State) (accepted : checked file memory ≡ result s) where
   good : Good s
-  good = reached-check file memory s accepted .good
+  good = good-file file s (by-fields file memory s accepted)
 
   within : Within s
-  within = reached-check file memory s accepted .within
+  within = within-file file s (by-fields file memory s accepted)
 
   lawful-all : AllLawful [] (meanings s)
   lawful-all = all-lawful [] (s .definitions) (good .sound)
@@ -170,13 +149,11 @@ module _ (file memory : List ℕ) (s : State) (accepted : checked file memory �
   pub level-query-replied : (m : ℕ) (ρ bytes : List ℕ) (l : ℕ) → levelQuery file memory m ρ bytes .reply ≡ result l
       → (b : Belongs s m (length ρ) bytes) × All IsLevel ρ × (l ≡ longWayLevel s ρ (termOf s m (length ρ) bytes b))
   level-query-replied m ρ bytes l e =
-      let reply : levelReply m ρ bytes s ≡ result l = sym (ap (λ (v : Outcome State). andThen v (levelReply m ρ bytes)) accepted) ∙ e in
-      let (M, found, x, read, causes) = term-read s m ρ (length ρ) bytes (levelOf s ρ) l reply in
-      let c = none-holds (queryCauses s M ρ (length ρ) x) causes in
-      let b : Belongs s m (length ρ) bytes = record { module-at = M; ended = found; expr = x; clear₃ = read; clear = c .1 } in
-      let a = low-levels ρ (c .0) in
-      let same : result (longWayLevel s ρ (termOf s m (length ρ) bytes b)) ≡ result l = sym (level-query m ρ bytes b a) ∙ e in
-      (b, a, sym (result-injective _ _ same))
+      andThen-result (queryTerm s m ρ (length ρ) bytes) (λ t. result (levelOf s ρ t)) l (sym (ap (λ (v : Outcome State). andThen v (levelReply m ρ bytes)) accepted) ∙ e) λ t q r.
+      let k = query-taken s m (length ρ) ρ bytes t q in
+      let b : Belongs s m (length ρ) bytes = record { module-at = k .place; ended = k .found; expr = k .asked; clear₃ = k .reads; clear = k .clear .1 } in
+      let a = low-levels ρ (k .clear .0) in
+      (b, a, sym (result-injective r) ∙ ap (levelOf s ρ) (sym (k .term)) ∙ one-level m (length ρ) bytes b ρ a)
 
   -- EXPANSIONS. "Its expansion, ill-levelled or not, with its length": for an expression that belongs to demand 3 an expansion query replies with the
   -- length of the true expansion's bytes and writes them, or is refused with 18 exactly when they are longer than the output or 65,535.

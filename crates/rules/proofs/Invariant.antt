@@ -8,6 +8,7 @@ use lib.ListN.{List·getD-append, getD, length, length-append}
 use native.Mathlib.Nat.{zero-add}
 use native.Mathlib.Omega.{arith}
 use Prim.Native.Nat.{_+_, _<_, _≤_, suc, zero, ℕ}
+use Rattle.rules.proofs.Accept.{Clears, accepted-fields, adds}
 use Rattle.rules.proofs.Causes.{clear-field}
 use Rattle.rules.proofs.Clear.{clear, operator-fits, plain-operator}
 use Rattle.rules.proofs.Sound.{SoundFrom, arities-at, arities-more, length-templates, params-known, sound-append, well-formed-more}
@@ -17,7 +18,8 @@ use Rattle.rules.specs.Expression.{Expression, Token, bound-variable, bu
 use Rattle.rules.specs.Field.{Field, FieldFits, Substitution, assume, begin-module, declare-constant, declare-variable, definition, end-module, extends, field, instance, theorem}
 use Rattle.rules.specs.Instance.{arityIn, broughtAll, broughtOne, declaredIn, isKind, sameKind, source, standsForItself, substitute, substituteOr, substitutionFor}
 use Rattle.rules.specs.Judge.{extendedContext, instanceMiscounted, instanceUnknown, itselfMiscounted, itselfUnknown, judge, miscounted, miscountedHead, substituteMiscounted, substituteUnknown, unknown, unknownHead}
-use Rattle.rules.specs.State.{Added, Context, Entry, Module, Phase, State, begun, declares, defines, definitionNamed, entryNamed, headOf, here, inside, instanceOf, instances, moduleNamed, noModule, operatorNamed, operatorOf, outside, paramsOf, resolve, templatesOf}
+use Rattle.rules.specs.Run.{judgeFile, result}
+use Rattle.rules.specs.State.{Added, Context, Entry, Module, Phase, State, begun, declares, defines, definitionNamed, entryNamed, headOf, here, inside, instanceOf, instances, moduleNamed, noModule, operatorNamed, operatorOf, outside, paramsOf, resolve, start, templatesOf}
 use Rattle.theory.proofs.Formed.{itself-declared, params-every}
 use Rattle.theory.proofs.Lists.{any-false, append-all, find-has, map-all, never, or-false, union-all}
 use Rattle.theory.proofs.Substitution.{count-params}
@@ -286,3 +288,16 @@ good-add s (instance n p m ss) h j g = good-instance s n p m ss h j g
 good-add s end-module h j g = good-after s end-module 0 outside (s .current ∷ []) noModule [] g tt (tt, tt) (current-more s [] g, tt)
 good-add s (assume e) h j g = good-after s (assume e) 0 inside [] (s .current) [] g tt (current-more s [] g) tt
 good-add s (theorem e) h j g = good-after s (theorem e) 0 inside [] (s .current) [] g tt (current-more s [] g) tt
+
+pub good-start : Good start
+good-start = record { sound = tt; current = (tt, tt); ended = tt }
+
+pub good-adds : (fs : List Field) (s : State) → All FieldFits fs → Clears s fs → Good s → Good (adds s fs)
+good-adds [] s h c g = g
+good-adds (f ∷ fs) s h c g = good-adds fs (add s f) (h .1) (c .1) (good-add s f (h .0) (c .0) g)
+
+-- an accepted file's state is good
+pub good-file : (file : List ℕ) (s : State) → judgeFile file ≡ result s → Good s
+good-file file s e =
+    let a = accepted-fields file s e in
+    subst Good (a .reached) (good-adds (a .fields) start (a .fit) (a .clear) good-start)

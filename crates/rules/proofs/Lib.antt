@@ -12,10 +12,21 @@ pub mod Clear
 pub mod Sound
 pub mod Invariant
 pub mod Within
+-- Calls and the lent memory
 pub mod Memory
+pub mod Replies
 pub mod Checks
--- Demand 3
+-- Names, and what is read back of an expansion
 pub mod Heads
 pub mod Quoting
+pub mod Origins
+pub mod Resolved
+pub mod Templates
+pub mod Names
+pub mod ReadBack
+-- Paths and bodies of definitions
+pub mod Paths
+pub mod Body
+-- Demand 3
 pub mod Replacing
 pub mod Demand3

@@ -5,7 +5,7 @@ use mathlib.Core.List.{_++_}
 use mathlib.Core.Option.{Option, none, some}
 use mathlib.Core.Path.{_∙_, _≡_, ap, ap₂, refl, subst, sym}
 use lib.Dec.{T, leb, leb→le}
-use lib.ListN.{length, length-append}
+use lib.ListN.{length}
 use native.Mathlib.Omega.{arith}
 use Prim.Native.Nat.{_+_, _<_, _≤_, suc, ℕ}
 use Rattle.rules.proofs.Expressions.{write-append}
@@ -14,10 +14,10 @@ use Rattle.rules.specs.Bytes.{name, writeAll}
 use Rattle.rules.specs.Expression.{LaidAll, TokenFits, code, expression, token, tokenArity, tokensOf, tokensOfAll, writeToken}
 use Rattle.rules.specs.Query.{quote, quoteHead, quotes}
 use Rattle.theory.proofs.Form.{at}
-use Rattle.theory.proofs.Index.{one-variable}
+use Rattle.theory.proofs.Index.{headReach, reach, reach-written, reaches}
 use Rattle.theory.proofs.Lists.{and-parts, any-false, append-all, find-has, none-some}
 use Rattle.theory.proofs.Write.{write, writes}
-use Rattle.theory.specs.Level.{Row, bindsIn, codeArity, codeBinder, has, row, table}
+use Rattle.theory.specs.Level.{Row, bindsIn, codeArity, has, row, table}
 use Rattle.theory.specs.Lists.{All, isSome, mapOption, orElse}
 use Rattle.theory.specs.Term.{Everys, Fits, Head, Kind, Term, Terms, WellFormed, binder, bound, builtin, declared, defined, kindArity, leaf, literal, noDefinitions, param}
 use Rattle.theory.specs.Tree.{_▹_, count, node, ⟨⟩}
@@ -32,7 +32,7 @@ quote-token (builtin c) m n k w = refl
 quote-token (leaf (literal v)) m n k w = refl
 
 mutual
-  -- The two writers are one.
+  -- "An expression is one token followed by its arguments": the rules write an expansion as the theory does.
   pub quote-written : (t : Term) (n k : ℕ) → WellFormed noDefinitions n k t → expression .write (quote t) ≡ write t
   quote-written (node h ts) n k w = ap₂ _++_ (quote-token h (count ts) n k (w .0)) (quotes-written ts n k (bindsIn (binder h)) (w .1))
 
@@ -63,39 +63,33 @@ code-byte c m e = at (row c) refl e
           subst (λ (o : Option Row). T (isSome (mapOption (λ r. length (r .takes)) o))) (sym p) tt,
         )
 
+-- declared names that fit their bytes, and few parameters
 module _ (N : Kind → ℕ → Type 0) (names-fit : (k : Kind) (x : ℕ) → N k x → name .Fits x × (kindArity k < 256)) (n : ℕ) (few : n ≤ 256) where
-  token-fits : (h : Head) (m k : ℕ) → Named N h → Fits noDefinitions n k h m → k ≤ 65536 → (m ≡ tokenArity (quoteHead h m)) × TokenFits (quoteHead h m)
+  token-fits : (h : Head) (m k : ℕ) → Named N h → Fits noDefinitions n k h m → headReach h ≤ 65536
+      → (m ≡ tokenArity (quoteHead h m)) × TokenFits (quoteHead h m)
   token-fits (param i) m k a w l = (w .1, omega (arith, w .0))
-  token-fits (bound j) m k a w l = (w .1, omega (arith, w .0))
+  token-fits (bound j) m k a w l = (w .1, l)
   token-fits (declared d x) m k a w l = (refl, (names-fit d x a .0, omega (arith, w, names-fit d x a .1)))
   token-fits (defined g) m k a w l = absurd a
   token-fits (builtin c) m k a w l = (sym (ap (orElse 0) w), code-byte c m w)
   token-fits (leaf (literal v)) m k a w l = (w, a)
 
-  -- a token is at least as long as the variables that it binds are many
-  binds-few : (h : Head) (m i : ℕ) → bindsIn (binder h) i ≤ length (writeToken (quoteHead h m))
-  binds-few (param i) m a = omega arith
-  binds-few (bound j) m a = omega arith
-  binds-few (declared k x) m a = omega arith
-  binds-few (defined g) m a = omega arith
-  binds-few (builtin c) m a = omega (arith, one-variable (codeBinder c) a)
-  binds-few (leaf l) m a = omega arith
-
   mutual
-    -- What is not over 65,536 bytes is an expression that can be written, and so read.
-    pub quote-fits : (t : Term) (k : ℕ) → Heads (Named N) t → WellFormed noDefinitions n k t → k + length (expression .write (quote t)) ≤ 65536 → expression .Fits (quote t)
-    quote-fits (node h ts) k a w l =
-        let b = length (writeToken (quoteHead h (count ts))) in
+    -- a term whose bound indices take two bytes
+    term-fits : (t : Term) (k : ℕ) → Heads (Named N) t → WellFormed noDefinitions n k t → reach t ≤ 65536 → expression .Fits (quote t)
+    term-fits (node h ts) k a w l =
         let f = token-fits h (count ts) k (a .0) (w .0) (omega arith) in
-        let r = quotes-fit ts k b (bindsIn (binder h)) (binds-few h (count ts)) (a .1) (w .1) (omega (arith, simp length-append at l)) in
+        let r = terms-fit ts k (bindsIn (binder h)) (a .1) (w .1) (omega arith) in
         ((count-quotes ts ∙ f .0, r .0), (f .1, r .1))
 
-    quotes-fit : (ts : Terms) (k b : ℕ) (s : ℕ → ℕ) → ((i : ℕ) → s i ≤ b) → AllHeads (Named N) ts → Everys (Fits noDefinitions n) k s ts
-        → b + k + length (writeAll token (tokensOfAll (quotes ts))) ≤ 65536 → LaidAll (quotes ts) × All TokenFits (tokensOfAll (quotes ts))
-    quotes-fit ⟨⟩ k b s h a w l = (tt, tt)
-    quotes-fit (t ▹ ts) k b s h a w l =
-        let e : length (writeAll token (tokensOf (quote t) ++ tokensOfAll (quotes ts))) ≡ length (expression .write (quote t)) + length (writeAll token (tokensOfAll (quotes ts)))
-              = ap length (write-append (tokensOf (quote t)) (tokensOfAll (quotes ts))) ∙ length-append (expression .write (quote t)) (writeAll token (tokensOfAll (quotes ts))) in
-        let q = quote-fits t (s 0 + k) (a .0) (w .0) (omega (arith, h 0)) in
-        let r = quotes-fit ts k b (λ i. s (suc i)) (λ i. h (suc i)) (a .1) (w .1) (omega arith) in
+    terms-fit : (ts : Terms) (k : ℕ) (s : ℕ → ℕ) → AllHeads (Named N) ts → Everys (Fits noDefinitions n) k s ts → reaches ts ≤ 65536
+        → LaidAll (quotes ts) × All TokenFits (tokensOfAll (quotes ts))
+    terms-fit ⟨⟩ k s a w l = (tt, tt)
+    terms-fit (t ▹ ts) k s a w l =
+        let q = term-fits t (s 0 + k) (a .0) (w .0) (omega arith) in
+        let r = terms-fit ts k (λ i. s (suc i)) (a .1) (w .1) (omega arith) in
         ((q .0, r .0), append-all TokenFits (tokensOf (quote t)) (tokensOfAll (quotes ts)) (q .1) (r .1))
+
+  -- "an expansion that holds [an index past two bytes] is always over 65,535 bytes": one that is not over them can be written, and so read.
+  pub quote-fits : (t : Term) → Heads (Named N) t → WellFormed noDefinitions n 0 t → length (expression .write (quote t)) ≤ 65535 → expression .Fits (quote t)
+  quote-fits t a w l = term-fits t 0 a w (omega (arith, reach-written t noDefinitions n 0 w, quote-length t n 0 w))

@@ -11,10 +11,9 @@ use Prim.Native.Nat.{_+_, _≤_, ℕ}
 use Rattle.limits.specs.Limits.{maxArity, maxDeclarations, maxDefinitions, maxModules}
 use Rattle.rules.proofs.Accept.{Clears, accepted-fields, adds}
 use Rattle.rules.proofs.Causes.{clear-field}
-use Rattle.rules.proofs.Invariant.{Good, good-add}
 use Rattle.rules.specs.Add.{add, after, ownOne}
 use Rattle.rules.specs.Expression.{overArity, overLimit}
-use Rattle.rules.specs.Field.{Field, FieldFits, Substitution, assume, begin-module, declare-constant, declare-variable, definition, end-module, extends, instance, tag, theorem}
+use Rattle.rules.specs.Field.{Field, Substitution, assume, begin-module, declare-constant, declare-variable, definition, end-module, extends, instance, tag, theorem}
 use Rattle.rules.specs.Instance.{broughtAll, broughtOne, source}
 use Rattle.rules.specs.Judge.{judge, outOfOrder, tooManyDefinitions}
 use Rattle.rules.specs.Run.{judgeFile, result}
@@ -114,27 +113,15 @@ within-add s end-module j w =
 within-add s (assume e) j w = within-plain s (assume e) 0 _ refl (clear-field s (assume e) j .0) (omega (arith, w .declarations)) w
 within-add s (theorem e) j w = within-plain s (theorem e) 0 _ refl (clear-field s (theorem e) j .0) (omega (arith, w .declarations)) w
 
--- What lawful fields lead to: good and within the limits.
-pub record Reached (s : State) : Type 0 where
-  pub good : Good s
-  pub within : Within s
+-- so in every state that lawful fields reach, and in an accepted file's
+pub within-adds : (fs : List Field) (s : State) → Clears s fs → Within s → Within (adds s fs)
+within-adds [] s c w = w
+within-adds (f ∷ fs) s c w = within-adds fs (add s f) (c .1) (within-add s f (c .0) w)
 
-pub reached-start : Reached start
-reached-start =
-    record {
-      good = record { sound = tt; current = (tt, tt); ended = tt };
-      within = record { modules = omega arith; declarations = omega arith; definitions = omega arith; params = tt };
-    }
+pub within-start : Within start
+within-start = record { modules = omega arith; declarations = omega arith; definitions = omega arith; params = tt }
 
-pub reached-add : (s : State) (f : Field) → FieldFits f → judge s f ≡ none → Reached s → Reached (add s f)
-reached-add s f h j r = record { good = good-add s f h j (r .good); within = within-add s f j (r .within) }
-
-pub reached-adds : (fs : List Field) (s : State) → All FieldFits fs → Clears s fs → Reached s → Reached (adds s fs)
-reached-adds [] s h c r = r
-reached-adds (f ∷ fs) s h c r = reached-adds fs (add s f) (h .1) (c .1) (reached-add s f (h .0) (c .0) r)
-
--- an accepted file's state
-pub reached-file : (file : List ℕ) (s : State) → judgeFile file ≡ result s → Reached s
-reached-file file s e =
+pub within-file : (file : List ℕ) (s : State) → judgeFile file ≡ result s → Within s
+within-file file s e =
     let a = accepted-fields file s e in
-    subst Reached (a .reached) (reached-adds (a .fields) start (a .fit) (a .clear) reached-start)
+    subst Within (a .reached) (within-adds (a .fields) start (a .clear) within-start)
