@@ -29,6 +29,14 @@ abbrev pub Clears : State → List Field → Type 0
 Clears s [] = Unit {0}
 Clears s (f ∷ fs) = (judge s f ≡ none) × Clears (add s f) fs
 
+pub adds-append : (s : State) (fs gs : List Field) → adds s (fs ++ gs) ≡ adds (adds s fs) gs
+adds-append s [] gs = refl
+adds-append s (f ∷ fs) gs = adds-append (add s f) fs gs
+
+pub clears-append : (s : State) (fs gs : List Field) → Clears s (fs ++ gs) → Clears s fs × Clears (adds s fs) gs
+clears-append s [] gs c = (tt, c)
+clears-append s (f ∷ fs) gs c = let r = clears-append (add s f) fs gs (c .1) in ((c .0, r .0), r .1)
+
 -- the bytes are fields that lead from one state to another, outside a module
 pub record Accepts (s : State) (bytes : List ℕ) (s′ : State) : Type 0 where
   pub fields : List Field

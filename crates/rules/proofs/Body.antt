@@ -7,11 +7,13 @@ use lib.Seq.{drop-at, getD-append-add, take-at}
 use native.Mathlib.Decide.{decLt}
 use native.Mathlib.Omega.{arith}
 use Prim.Native.Nat.{_%_, _+_, _-_, _/_, _<_, _≤_, suc, zero, ℕ}
-use Rattle.rules.proofs.Accept.{Accepts, Clears, accepted-fields, adds}
+use Rattle.rules.proofs.Accept.{Accepts, Clears, accepted-fields, adds, adds-append}
 use Rattle.rules.proofs.Checks.{by-fields}
 use Rattle.rules.proofs.Expressions.{expression-there}
 use Rattle.rules.proofs.Invariant.{Good, good-add, source-known}
+use Rattle.rules.proofs.Modules.{place}
 use Rattle.rules.proofs.Replies.{andThen-result, definition-there, result-injective}
+use Rattle.rules.proofs.SideBySide.{size}
 use Rattle.rules.specs.Add.{add, ownOne}
 use Rattle.rules.specs.Bytes.{writeAll}
 use Rattle.rules.specs.Expression.{Expression, expression}
@@ -25,10 +27,6 @@ use Rattle.theory.proofs.Lists.{at-all, split-all}
 use Rattle.theory.specs.Expand.{brought, own}
 use Rattle.theory.specs.Lists.{All}
 use Rattle.theory.specs.Term.{Kind, Term}
-
-pub adds-append : (s : State) (fs gs : List Field) → adds s (fs ++ gs) ≡ adds (adds s fs) gs
-adds-append s [] gs = refl
-adds-append s (f ∷ fs) gs = adds-append (add s f) fs gs
 
 fields-append : (fs gs : List Field) → writeAll field (fs ++ gs) ≡ writeAll field fs ++ writeAll field gs
 fields-append [] gs = refl

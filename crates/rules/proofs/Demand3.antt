@@ -6,7 +6,7 @@
 use borrow.Author.Tests.{leb-false, lt-leb, lt-ltb}
 use mathlib.Core.Bool.{Bool, false}
 use mathlib.Core.List.{List, [], _∷_}
-use mathlib.Core.Option.{Option, some}
+use mathlib.Core.Option.{some}
 use mathlib.Core.Path.{_∙_, _≡_, ap, refl, subst, sym}
 use lib.Dec.{eqb, leb}
 use lib.ListN.{getD, length}
@@ -20,7 +20,7 @@ use Rattle.rules.proofs.Formats.{some-injective}
 use Rattle.rules.proofs.Invariant.{Good, ModuleKnown, arity-known, clear-in, good-file}
 use Rattle.rules.proofs.Memory.{card-says}
 use Rattle.rules.proofs.Quoting.{quote-length}
-use Rattle.rules.proofs.Replacing.{cards-keep, expansion-of-name, known-below, nameAtParams, same-level}
+use Rattle.rules.proofs.Replacing.{card-template, cards-keep, expansion-of-name, known-below, nameAtParams, same-level}
 use Rattle.rules.proofs.Replies.{andThen-result, query-taken, result-injective}
 use Rattle.rules.proofs.Sound.{all-lawful, length-templates}
 use Rattle.rules.proofs.Within.{Within, within-file}
@@ -30,7 +30,7 @@ use Rattle.rules.specs.Query.{ExpansionAnswer, expansionBytesOf, expansi
 use Rattle.rules.specs.Run.{Outcome, andThen, check, checked, memoryAfter, refusal, result}
 use Rattle.rules.specs.State.{Module, State, cardLevel, expansionOf, levelOf, meanings, moduleNamed, paramsOf, resolve, templatesOf}
 use Rattle.theory.proofs.Bytes.{bytes}
-use Rattle.theory.proofs.Demand3.{both-ways, card-exact, expansion-formed}
+use Rattle.theory.proofs.Demand3.{both-ways, expansion-formed}
 use Rattle.theory.proofs.Index.{far-index, reach}
 use Rattle.theory.proofs.Levels.{IsLevel}
 use Rattle.theory.proofs.Lists.{find-has, or-false}
@@ -87,8 +87,7 @@ module _ (file memory : List ℕ) (s : State) (accepted : checked file memory �
   pub every-card : (g : ℕ) (ρ : List ℕ) → g < length (s .definitions) → length ρ ≡ paramsOf s g → All IsLevel ρ
       → cardLevel s g ρ ≡ longWayLevel s ρ (nameAtParams s g)
   every-card g ρ l n a =
-      card-exact (meanings s) lawful-all g ρ (arity-known s (good .sound) g l ∙ ap {B = Option ℕ} some (sym n)) a
-      ∙ ap (level longWay ρ) (sym (expansion-of-name s good g l))
+      card-template s good g ρ l n a ∙ ap (level longWay ρ) (sym (expansion-of-name s good g l))
 
   -- and that expansion is, for an own definition, its body expanded; for a brought one, the original's expansion with every declared name substituted
   pub own-expansion : (g : ℕ) → g < length (s .definitions) → expansionOf s (nameAtParams s g) ≡ bodyIn (templatesOf s) g

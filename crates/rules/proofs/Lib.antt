@@ -30,3 +30,15 @@ pub mod Body
 -- Demand 3
 pub mod Replacing
 pub mod Demand3
+-- Two files with equal fields for a module and all it reaches
+pub mod Reach
+pub mod Pairs
+pub mod SameTerms
+pub mod Matching
+pub mod Correspondence
+pub mod SideBySide
+pub mod Modules
+pub mod Ended
+pub mod TwoFiles
+pub mod EqualCards
+pub mod EqualMemory

@@ -29,7 +29,7 @@ pub overwrite-length : (bytes memory : List ℕ) → length bytes ≤ length mem
 overwrite-length bytes memory l = rw (length-append, length-drop) (omega arith)
 
 -- an accepted state's cards, each of 125 bytes
-card-size : (s : State) → Within s → (g : ℕ) → g < length (s .definitions) → length (card s g) ≡ cardBytes
+pub card-size : (s : State) → Within s → (g : ℕ) → g < length (s .definitions) → length (card s g) ≡ cardBytes
 card-size s w g l = card-length (paramsOf s g) (cardLevel s g) (at-all (λ d. d .params ≤ maxArity) (s .definitions) g noDefinition (w .params) l)
 
 -- the cards of the definitions from j on

@@ -9,7 +9,7 @@ use Prim.Native.Nat.{_+_, _<_, suc, zero, ℕ}
 use Rattle.rules.proofs.Invariant.{Good, arity-known}
 use Rattle.rules.proofs.Sound.{all-lawful}
 use Rattle.rules.specs.State.{State, cardLevel, expansionOf, meanings, paramsOf, templatesOf}
-use Rattle.theory.proofs.Demand3.{template-formed}
+use Rattle.theory.proofs.Demand3.{card-exact, template-formed}
 use Rattle.theory.proofs.ExpandFirst.{Keeps, evals-good, length-evals}
 use Rattle.theory.proofs.Levels.{IsLevel, bound-level, levels-kept}
 use Rattle.theory.proofs.Lists.{append-all, none-some, replicate-all}
@@ -17,7 +17,7 @@ use Rattle.theory.proofs.Summary.{keeps-with, summarise-all, summary-good}
 use Rattle.theory.specs.Expand.{Template, aritiesOf, bodyIn, expandHead, nothing, paramsFrom, putIn, putInHead, rebuild, rebuilds, shift, summariesFrom}
 use Rattle.theory.specs.Level.{bindsIn, boundLevel, builtinLevel, incorrect, plain}
 use Rattle.theory.specs.Lists.{All}
-use Rattle.theory.specs.Term.{Arities, Every, Everys, Fits, Term, Terms, binder, bound, builtin, byCards, declared, declaredLevel, defined, eval, evals, leaf, longWay, noDefinitions, param}
+use Rattle.theory.specs.Term.{Arities, Every, Everys, Fits, Term, Terms, binder, bound, builtin, byCards, declared, declaredLevel, defined, eval, evals, leaf, level, longWay, noDefinitions, param}
 use Rattle.theory.specs.Tree.{_▹_, count, node, nth, ⟨⟩}
 
 nth-params : (j n i : ℕ) → i < n → nth nothing (paramsFrom j n) i ≡ node (param (j + i)) ⟨⟩
@@ -97,3 +97,9 @@ cards-keep s good =
     keeps-with longWay IsLevel levels-kept (cardLevel s)
     (summary-good longWay IsLevel levels-kept (templatesOf s) (summariesFrom longWay [] [] (meanings s))
     (summarise-all longWay IsLevel levels-kept [] [] (meanings s) tt (all-lawful [] (s .definitions) (good .sound))))
+
+-- a card gives the level of its definition's template
+pub card-template : (s : State) → Good s → (g : ℕ) (ρ : List ℕ) → g < length (s .definitions) → length ρ ≡ paramsOf s g → All IsLevel ρ
+    → cardLevel s g ρ ≡ level longWay ρ (bodyIn (templatesOf s) g)
+card-template s good g ρ l n a =
+    card-exact (meanings s) (all-lawful [] (s .definitions) (good .sound)) g ρ (arity-known s (good .sound) g l ∙ ap {B = Option ℕ} some (sym n)) a
