@@ -1,16 +1,18 @@
 -- INSTANCE: the module instanced, what its declared names are replaced by, and the definitions that it brings. In each definition p is the
 -- instance's parameter count, M the module and ss the substitutions written.
-use mathlib.Core.Bool.{Bool, true, false, not, cond, _&&_}
-use mathlib.Core.List.{List, [], _∷_, map}
+use mathlib.Core.Bool.{Bool, _&&_, cond, false, not, true}
+use mathlib.Core.List.{List, _∷_, map}
 use mathlib.Core.Option.{Option, none, some}
-use Prim.Native.Nat.{ℕ, zero, suc, _+_}
-use lib.Dec.{leb, eqb}
-use Rattle.theory.specs.Lists.{any, find, orElse, mapOption, isSome, collect}
-use Rattle.theory.specs.Term.{Kind, constant, variable, kindArity, literal, declared, leaf, Term, longWay, level}
-use Rattle.theory.specs.Expand.{Definition, brought, itself, templateOf}
+use lib.Dec.{eqb, leb}
+use Prim.Native.Nat.{_+_, suc, zero, ℕ}
+use Rattle.rules.specs.Bytes.{name}
 use Rattle.rules.specs.Expression.{Expression}
-use Rattle.rules.specs.Field.{Substitution}
-use Rattle.rules.specs.State.{Entry, declares, defines, instances, Module, noModule, Added, State, here, definitionAt, paramsOf, moduleNamed, operatorNamed, resolve, templatesOf, cardLevel, levelOf, zeros}
+use Rattle.rules.specs.Field.{Substitution, field}
+use Rattle.rules.specs.State.{Added, Entry, Module, State, cardLevel, declares, defines, definitionAt, here, instances, levelOf, moduleNamed, noModule, operatorNamed, paramsOf, resolve, templatesOf, zeros}
+use Rattle.theory.specs.Expand.{Definition, brought, itself, templateOf}
+use Rattle.theory.specs.Level.{verdict}
+use Rattle.theory.specs.Lists.{any, collect, find, isSome, mapOption, orElse}
+use Rattle.theory.specs.Term.{Kind, Term, constant, declared, kindArity, leaf, level, literal, longWay, meaning, variable}
 
 -- the module instanced, if it is ended earlier; else it brings nothing
 abbrev pub source : State → ℕ → Module
@@ -78,7 +80,7 @@ isConstant s M =
 -- "In a module that is not constant, a constant takes level 0 and a variable 0 or 1. In every module an operator takes a substitute of
 -- level 0. Otherwise any level but 4."
 abbrev pub lawful : Bool → Kind → ℕ → Bool
-lawful constantModule (constant zero) l = cond constantModule (not (eqb l 4)) (eqb l 0)
+lawful constantModule (constant zero) l = cond constantModule (not (verdict l)) (eqb l 0)
 lawful constantModule (constant (suc k)) l = eqb l 0
 lawful constantModule variable l = leb l 1
 

@@ -11,6 +11,7 @@ use Rattle.rules.specs.Expression.{Expression, overArity, overLimit, som
 use Rattle.rules.specs.Field.{Field, Substitution, assume, begin-module, declare-constant, declare-variable, definition, end-module, extends, field, instance, tag, theorem}
 use Rattle.rules.specs.Instance.{arityIn, broughtLevel, declaredIn, isConstant, kindIn, lawful, source, standsForItself, substituteLevel}
 use Rattle.rules.specs.State.{Context, Entry, Module, Phase, State, begun, declares, defines, headOf, here, inContext, inside, instanceOf, instances, levelOf, moduleNamed, operatorNamed, outside, paramsOf, resolve, sameName, sameOrigin, zeros}
+use Rattle.theory.specs.Level.{verdict}
 use Rattle.theory.specs.Lists.{any, collect, isSome, repeats, union}
 use Rattle.theory.specs.Term.{Head, Kind, bound, builtin, declared, defined, kindArity, leaf, param}
 
@@ -116,10 +117,10 @@ wrongSubstitution M ss =
 
 -- 12, "level 4 in a body (parameters at 0), substitute or formula"
 abbrev pub notLevelCorrect : State → ℕ → Expression → Bool
-notLevelCorrect s p e = eqb 4 (levelOf s (zeros p) (resolve s (here s) e))
+notLevelCorrect s p e = verdict (levelOf s (zeros p) (resolve s (here s) e))
 
 abbrev pub substituteNotLevelCorrect : State → ℕ → Module → List Substitution → Bool
-substituteNotLevelCorrect s p M ss = any (λ d. eqb 4 (substituteLevel s p M ss d)) (declaredIn M)
+substituteNotLevelCorrect s p M ss = any (λ d. verdict (substituteLevel s p M ss d)) (declaredIn M)
 
 -- 13, "ASSUME not level 0"
 abbrev pub notConstantLevel : State → Expression → Bool
@@ -131,7 +132,7 @@ unlawfulSubstitute s p M ss = any (λ d. not (lawful (isConstant s M) (d .0) (su
 
 -- 15, "a brought definition is 4 with parameters at 0"
 abbrev pub broughtNotLevelCorrect : State → ℕ → Module → List Substitution → Bool
-broughtNotLevelCorrect s p M ss = any (λ g. eqb 4 (broughtLevel s p M ss g)) (M .definitions)
+broughtNotLevelCorrect s p M ss = any (λ g. verdict (broughtLevel s p M ss g)) (M .definitions)
 
 -- 16, "the module instanced has a named instance, its own or extended"
 abbrev pub hasNamedInstance : Module → Bool

@@ -1,3 +1,6 @@
+-- The table of codes, and basic expansions and cards, by computation
+pub mod Table
+pub mod Basics
 -- Tests and lists
 pub mod Lists
 -- The one induction, and what follows for any reading
