@@ -24,14 +24,12 @@ use Rattle.laws.proofs.Replies.{andThen-result, query-taken, result-inj
 use Rattle.laws.proofs.Sound.{all-lawful, length-templates}
 use Rattle.laws.proofs.Within.{Within, within-file}
 use Rattle.limits.specs.Limits.{cardBytes, expansionBytes, levelCount}
-use Rattle.rules.proofs.ExamplesMemory.{accepted}
-use Rattle.rules.proofs.Shapes.{file, same}
+use Rattle.rules.proofs.Shapes.{same}
 use Rattle.rules.specs.Expression.{Expression, expression, overArity}
 use Rattle.rules.specs.Judge.{expressionCauses}
 use Rattle.rules.specs.Query.{ExpansionAnswer, expansionBytesOf, expansionQuery, levelQuery, levelReply, outputAfter, queryTerm, quote, unlessLonger}
 use Rattle.rules.specs.Run.{Outcome, andThen, check, checked, memoryAfter, refusal, result}
 use Rattle.rules.specs.State.{Module, State, cardLevel, expansionOf, levelOf, meanings, moduleNamed, paramsOf, resolve, templatesOf}
-use Rattle.theory.proofs.Bytes.{bytes}
 use Rattle.theory.proofs.Demand3.{both-ways, expansion-formed}
 use Rattle.theory.proofs.Index.{far-index, reach}
 use Rattle.theory.proofs.Levels.{IsLevel}

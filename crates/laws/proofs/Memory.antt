@@ -11,7 +11,6 @@ use Rattle.limits.specs.Limits.{cardBytes, cardMemoryBytes, levelCount, maxArit
 use Rattle.laws.proofs.Within.{Within}
 use Rattle.rules.specs.Run.{card, cardsFrom, memoryAfter, overwrite, refusal, result}
 use Rattle.rules.specs.State.{Added, State, cardLevel, noDefinition, paramsOf}
-use Rattle.theory.proofs.Bytes.{bytes}
 use Rattle.theory.proofs.Cards.{card-holds, card-length, entry-below}
 use Rattle.theory.proofs.Levels.{IsLevel}
 use Rattle.theory.proofs.Lists.{at-all}

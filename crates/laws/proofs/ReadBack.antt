@@ -24,7 +24,6 @@ use Rattle.rules.specs.Judge.{miscounted, unknown}
 use Rattle.rules.specs.Query.{expansionBytesOf, expansionQuery, expansionReply, outputAfter, queryTerm, quote, quoteHead, quotes, unlessLonger}
 use Rattle.rules.specs.Run.{Outcome, andThen, checked, judgeFile, result}
 use Rattle.rules.specs.State.{Context, Entry, Module, State, expansionOf, headOf, meanings, moduleNamed, operatorOf, resolve}
-use Rattle.theory.proofs.Bytes.{bytes, written}
 use Rattle.theory.proofs.Demand3.{expansion-formed}
 use Rattle.theory.proofs.Lists.{find-has}
 use Rattle.theory.specs.Lists.{All, bindOption, orElse}

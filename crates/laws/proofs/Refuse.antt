@@ -19,7 +19,6 @@ use Rattle.rules.specs.Field.{Field, FieldFits, field, writeField}
 use Rattle.rules.specs.Judge.{judge}
 use Rattle.rules.specs.Run.{andThen, endIn, fromField, judgeFile, judgeFrom, judged, refusal, result}
 use Rattle.rules.specs.State.{Phase, State, begun, inside, outside, start}
-use Rattle.theory.proofs.Bytes.{bytes}
 use Rattle.theory.proofs.Form.{at}
 use Rattle.theory.specs.Lists.{All}
 

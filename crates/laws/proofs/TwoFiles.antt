@@ -18,7 +18,6 @@ use Rattle.laws.proofs.Reach.{HasModule, InnerField, namesOf}
 use Rattle.laws.proofs.SameTerms.{Leaves}
 use Rattle.laws.proofs.SideBySide.{Corresponds, added-both, size, step-both}
 use Rattle.rules.specs.Add.{add}
-use Rattle.rules.specs.Bytes.{name}
 use Rattle.rules.specs.Field.{Field, begin-module}
 use Rattle.rules.specs.Instance.{source}
 use Rattle.rules.specs.State.{State, start, templatesOf}

@@ -1,13 +1,13 @@
 -- What the fields read so far have added, and what names mean in it.
-use mathlib.Core.Bool.{Bool, true, false, _&&_}
+use mathlib.Core.Bool.{Bool, false, _&&_}
 use mathlib.Core.List.{List, [], _∷_, map}
 use mathlib.Core.Option.{Option, none, some}
 use Prim.Native.Nat.{ℕ}
 use lib.Dec.{eqb}
 use lib.ListN.{getD, replicate}
-use Rattle.theory.specs.Lists.{find, orElse, bindOption, mapOption, isSome, collect, sameNumbers}
+use Rattle.theory.specs.Lists.{find, orElse, bindOption, mapOption, isSome, sameNumbers}
 use Rattle.theory.specs.Tree.{mapTree}
-use Rattle.theory.specs.Term.{Kind, kindArity, literal, Head, param, bound, declared, defined, builtin, leaf, Term, byCards, level}
+use Rattle.theory.specs.Term.{Kind, literal, Head, param, bound, declared, defined, builtin, leaf, Term, byCards, level}
 use Rattle.theory.specs.Expand.{Definition, own, nothing, Template, templates, cards, bodyIn, expand}
 use Rattle.rules.specs.Expression.{Token, parameter, bound-variable, operator, instance-operator, built-in, numeral, Expression}
 

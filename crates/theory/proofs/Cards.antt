@@ -1,5 +1,4 @@
 -- Cards as bytes hold the levels that they are filled with, for any number of parameters.
-use borrow.Fn.PlainCycle.{is}
 use mathlib.Core.List.{List, [], _++_, _∷_, map}
 use mathlib.Core.Path.{_∙_, _≡_, ap, ap₂, refl, subst, sym}
 use lib.ListN.{List·getD-append, getD, length, length-append, length-replicate, replicate}
