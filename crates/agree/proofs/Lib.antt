@@ -1,0 +1,15 @@
+pub mod Codes
+pub mod Tokens
+pub mod Expressions
+pub mod Positions
+pub mod Substitutions
+pub mod Payloads
+pub mod Fields
+pub mod Runs
+pub mod Layouts
+pub mod Folds
+pub mod Walks
+pub mod Somewhere
+pub mod Limits
+pub mod Levels
+pub mod Examples

@@ -1,0 +1,4 @@
+pub mod Trees
+pub mod Parts
+pub mod Folds
+pub mod Levels

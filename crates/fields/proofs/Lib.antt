@@ -1,0 +1,4 @@
+pub mod Substituting
+pub mod Payloads
+pub mod Steps
+pub mod Turns

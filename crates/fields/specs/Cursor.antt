@@ -1,0 +1,33 @@
+-- What stands at a cursor. Definitions only.
+use Prim.Native.Nat.{ℕ, _+_, _-_}
+use mathlib.Core.Bool.{cond}
+use mathlib.Core.List.{List}
+use lib.Dec.{leb, ltb}
+use lib.ListN.{length, getD}
+use Rattle.tokens.specs.Token.{numberAt}
+use Rattle.fields.specs.Substitution.{part}
+use Rattle.fields.specs.Payload.{partsOf}
+use Rattle.fields.specs.declared.Cursor.{Cursor}
+use Rattle.fields.specs.declared.Step.{Step}
+use Rattle.fields.specs.declared.Parts.{Parts}
+use Rattle.fields.specs.declared.Parts.the-variants.{Cut, EndOfFile}
+
+-- the position of a cursor
+abbrev pub placeOf : Cursor → ℕ
+placeOf c = c .number + c .offset
+
+-- the cursor stays; or goes past a tag, a length and a payload of n bytes
+abbrev pub stays : Cursor → Parts → Step
+stays c x = record { parts = x; number = c .number; next = c }
+
+abbrev pub goes : Cursor → ℕ → Parts → Step
+goes c n x = record { parts = x; number = c .number; next = record { number = c .number + 1; offset = c .offset + 2 + n } }
+
+-- "A field is a one-byte tag, a two-byte length, and that many bytes."
+unfoldable pub stepAt : List ℕ → Cursor → Step
+stepAt s c =
+    let at = placeOf c in
+    cond (leb (length s) at) (stays c EndOfFile)
+    (cond (ltb (length s - at) 3) (stays c Cut)
+    (cond (ltb (length s - (at + 3)) (numberAt s (at + 1))) (stays c Cut)
+    (goes c (numberAt s (at + 1)) (partsOf (getD s at 0) (part s (at + 3) (numberAt s (at + 1))) (at + 3)))))

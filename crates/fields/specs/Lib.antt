@@ -1,0 +1,4 @@
+pub mod Substitution
+pub mod Payload
+pub mod Cursor
+pub mod Layout

@@ -1,0 +1,4 @@
+pub mod Sets
+pub mod Forms
+pub mod Numbers
+pub mod Tables
