@@ -5,13 +5,13 @@
 -- name. `longWay` is the reading with no card; `expansionOf s t` is t with every defined name replaced.
 use borrow.Author.Tests.{leb-false, lt-leb, lt-ltb}
 use mathlib.Core.Bool.{false}
-use mathlib.Core.List.{List, [], _∷_}
+use mathlib.Core.List.{List, [], _∷_, map}
 use mathlib.Core.Option.{some}
 use mathlib.Core.Path.{_∙_, _≡_, ap, refl, subst, sym}
 use lib.Dec.{leb}
-use lib.ListN.{getD, length}
+use lib.ListN.{getD, length, length-map}
 use native.Mathlib.Omega.{arith}
-use Prim.Native.Nat.{_*_, _+_, _<_, ℕ}
+use Prim.Native.Nat.{_*_, _+_, _<_, suc, zero, ℕ}
 use Rattle.laws.proofs.Causes.{NoneHolds}
 use Rattle.laws.proofs.Checks.{by-fields}
 use Rattle.laws.proofs.Expressions.{expression-back}
@@ -24,22 +24,22 @@ use Rattle.laws.proofs.Replies.{andThen-result, query-taken, result-inj
 use Rattle.laws.proofs.Sound.{all-lawful, length-templates}
 use Rattle.laws.proofs.Within.{Within, within-file}
 use Rattle.limits.specs.Limits.{cardBytes, expansionBytes, levelCount}
-use Rattle.rules.proofs.Shapes.{same}
 use Rattle.rules.specs.Expression.{Expression, expression, overArity}
 use Rattle.rules.specs.Judge.{expressionCauses}
 use Rattle.rules.specs.Query.{ExpansionAnswer, expansionBytesOf, expansionQuery, levelQuery, levelReply, outputAfter, queryTerm, quote, unlessLonger}
 use Rattle.rules.specs.Run.{Outcome, andThen, check, checked, memoryAfter, refusal, result}
-use Rattle.rules.specs.State.{Module, State, cardLevel, expansionOf, levelOf, meanings, moduleNamed, paramsOf, resolve, templatesOf}
+use Rattle.rules.specs.State.{Added, Module, State, cardLevel, definitionAt, expansionOf, levelOf, meanings, moduleNamed, noDefinition, paramsOf, resolve, templatesOf}
 use Rattle.theory.proofs.Demand3.{both-ways, expansion-formed}
 use Rattle.theory.proofs.Index.{far-index, reach}
 use Rattle.theory.proofs.Levels.{IsLevel}
 use Rattle.theory.proofs.Lists.{find-has, or-false}
+use Rattle.theory.proofs.Settled.{Expands, expands}
 use Rattle.theory.proofs.Summary.{AllLawful}
 use Rattle.theory.specs.Card.{entryOf}
-use Rattle.theory.specs.Expand.{aritiesOf, bodyIn}
+use Rattle.theory.specs.Expand.{aritiesOf, brought, instantiate, nothing, own}
 use Rattle.theory.specs.Level.{verdict}
 use Rattle.theory.specs.Lists.{All, any}
-use Rattle.theory.specs.Term.{Term, WellFormed, byCards, level, longWay, noDefinitions}
+use Rattle.theory.specs.Term.{Kind, Term, WellFormed, byCards, level, longWay, noDefinitions}
 
 -- "An expression belongs to demand 3 when causes 3, 5, 9 and 10 find nothing in it, dropped arguments included, read at the end of the module in
 -- question", over n parameters.
@@ -68,6 +68,11 @@ low-levels (l ∷ ls) e =
     let r = or-false (leb levelCount l) (any (λ l. leb levelCount l) ls) e in
     (omega (arith, leb-false levelCount l (r .0)), low-levels ls (r .1))
 
+meaning-at : (ds : List Added) (g : ℕ) → g < length ds → getD (map (λ d. d .meaning) ds) g (own 0 nothing) ≡ getD ds g noDefinition .meaning
+meaning-at [] g l = absurd (omega arith)
+meaning-at (d ∷ ds) zero l = refl
+meaning-at (d ∷ ds) (suc g) l = meaning-at ds g (omega arith)
+
 module _ (file memory : List ℕ) (s : State) (accepted : checked file memory ≡ result s) where
   good : Good s
   good = good-file file s (by-fields file memory s accepted)
@@ -85,9 +90,22 @@ module _ (file memory : List ℕ) (s : State) (accepted : checked file memory �
   every-card g ρ l n a =
       card-template s good g ρ l n a ∙ ap (level longWay ρ) (sym (expansion-of-name s good g l))
 
-  -- and that expansion is, for an own definition, its body expanded; for a brought one, the original's expansion with every declared name substituted
-  pub own-expansion : (g : ℕ) → g < length (s .definitions) → expansionOf s (nameAtParams s g) ≡ bodyIn (templatesOf s) g
-  own-expansion g l = expansion-of-name s good g l
+  -- (For a brought definition the rules give the card as the level of its expansion, so that `every-card` holds for it at once. That it is the level of
+  -- the original's text, read through the chain of instances, is `every-card-in-world` of the crate worlds.)
+
+  -- What that expansion is. Of an own definition: its body, expanded. `Body.own-field` says that the body is that of its field.
+  pub own-expansion : (g n : ℕ) (t : Term) → g < length (s .definitions) → definitionAt s g .meaning ≡ own n t → expansionOf s (nameAtParams s g) ≡ expansionOf s t
+  own-expansion g n t l e =
+      expansion-of-name s good g l
+      ∙ subst (Expands (templatesOf s) g) (meaning-at (s .definitions) g l ∙ e) (expands (meanings s) lawful-all g (rw length-map l))
+
+  -- Of a brought one: "F's expansion in its module with every declared name substituted", each substitute expanded.
+  pub brought-expansion : (g p h : ℕ) (σ : Kind → ℕ → Term) → g < length (s .definitions) → h < length (s .definitions) → definitionAt s g .meaning ≡ brought p σ h
+      → expansionOf s (nameAtParams s g) ≡ instantiate (λ k x. expansionOf s (σ k x)) p (expansionOf s (nameAtParams s h))
+  brought-expansion g p h σ l k e =
+      expansion-of-name s good g l
+      ∙ subst (Expands (templatesOf s) g) (meaning-at (s .definitions) g l ∙ e) (expands (meanings s) lawful-all g (rw length-map l))
+      ∙ ap (instantiate (λ k x. expansionOf s (σ k x)) p) (sym (expansion-of-name s good h k))
 
   -- the same of the byte that a check leaves in memory
   pub every-card-byte : (g : ℕ) (ρ : List ℕ) → g < length (s .definitions) → length ρ ≡ paramsOf s g → All IsLevel ρ
@@ -125,7 +143,7 @@ module _ (file memory : List ℕ) (s : State) (accepted : checked file memory �
             let p : length vs ≡ paramsOf s g = some-injective (sym h ∙ arity-known s (good .sound) g l) in
             ap (λ (v : Outcome State). cardIn (memoryAfter v memory) g vs) accepted ∙ card-says s within memory g vs l p levels
 
-    -- nothing of the expansion is defined, unknown or miscounted
+    -- the expansion holds no defined name, its indices are known and its argument counts right (that its names are the module's: `Names.expansion-names`)
     pub expansion-closed : WellFormed noDefinitions n 0 (expansionOf s (termOf s m n bytes b))
     expansion-closed = expansion-formed (meanings s) lawful-all n (termOf s m n bytes b) well-formed
 
@@ -163,7 +181,7 @@ module _ (file memory : List ℕ) (s : State) (accepted : checked file memory �
   expansion-query m n bytes output b = rw (accepted, b .ended, b .clear₃, b .clear .0, b .clear .1 .0, b .clear .1 .1 .0, b .clear .1 .1 .1 .0)
 
   -- "A moved bound index may there pass two bytes; an expansion that holds one is always over 65,535 bytes, so a query for it is 18."
-  pub far-index-is-18 : (m n : ℕ) (bytes output : List ℕ) (b : Belongs s m n bytes) → 65536 < reach (expansionOf s (termOf s m n bytes b))
+  pub far-index-is-18 : (m n : ℕ) (bytes output : List ℕ) (b : Belongs s m n bytes) → suc expansionBytes < reach (expansionOf s (termOf s m n bytes b))
       → expansionQuery file memory m n bytes output .reply ≡ refusal 18 0
   far-index-is-18 m n bytes output b h =
       let t = expansionOf s (termOf s m n bytes b) in

@@ -5,8 +5,8 @@ pub mod Fields
 -- Acceptance and refusal
 pub mod Causes
 pub mod Accept
-pub mod Refuse
 pub mod Running
+pub mod Refuse
 -- What lawful fields keep
 pub mod Clear
 pub mod Sound
