@@ -21,7 +21,7 @@ use Rattle.laws.proofs.Memory.{card-says}
 use Rattle.laws.proofs.Quoting.{quote-length}
 use Rattle.laws.proofs.Replacing.{card-template, cards-keep, expansion-of-name, known-below, nameAtParams, same-level}
 use Rattle.laws.proofs.Replies.{andThen-result, query-taken, result-injective}
-use Rattle.laws.proofs.Sound.{all-lawful, length-templates}
+use Rattle.laws.proofs.Sound.{all-formed, length-templates}
 use Rattle.laws.proofs.Within.{Within, within-file}
 use Rattle.limits.specs.Limits.{cardBytes, expansionBytes, levelCount}
 use Rattle.rules.specs.Expression.{Expression, expression, overArity}
@@ -34,7 +34,7 @@ use Rattle.theory.proofs.Index.{far-index, reach}
 use Rattle.theory.proofs.Levels.{IsLevel}
 use Rattle.theory.proofs.Lists.{find-has, or-false}
 use Rattle.theory.proofs.Settled.{Expands, expands}
-use Rattle.theory.proofs.Summary.{AllLawful}
+use Rattle.theory.proofs.Summary.{AllFormed}
 use Rattle.theory.specs.Card.{entryOf}
 use Rattle.theory.specs.Expand.{aritiesOf, brought, instantiate, nothing, own}
 use Rattle.theory.specs.Level.{verdict}
@@ -80,8 +80,8 @@ module _ (file memory : List ℕ) (s : State) (accepted : checked file memory �
   within : Within s
   within = within-file file s (by-fields file memory s accepted)
 
-  lawful-all : AllLawful [] (meanings s)
-  lawful-all = all-lawful [] (s .definitions) (good .sound)
+  lawful-all : AllFormed [] (meanings s)
+  lawful-all = all-formed [] (s .definitions) (good .sound)
 
   -- CARDS. "In an accepted file a card, at every choice of levels for its parameters, gives the long way's level of its definition's expansion, a
   -- brought one taken as its instance brings it": its expansion is that of its name at its parameters.

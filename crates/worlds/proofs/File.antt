@@ -10,7 +10,7 @@ use Prim.Native.Nat.{_+_, _<_, _≤_, ℕ}
 use Rattle.laws.proofs.Accept.{accepted-fields}
 use Rattle.laws.proofs.Formats.{some-injective}
 use Rattle.laws.proofs.Invariant.{arity-known, good-file}
-use Rattle.laws.proofs.Sound.{SoundFrom, all-lawful}
+use Rattle.laws.proofs.Sound.{SoundFrom, all-formed}
 use Rattle.laws.proofs.Within.{within-file}
 use Rattle.rules.specs.Field.{Field}
 use Rattle.rules.specs.Run.{judgeFile, result}
@@ -18,7 +18,7 @@ use Rattle.rules.specs.State.{Added, State, cardLevel, meanings, noDefinition, 
 use Rattle.theory.proofs.Demand3.{card-exact}
 use Rattle.theory.proofs.ExpandFirst.{Keeps}
 use Rattle.theory.proofs.Levels.{IsLevel, levels-kept}
-use Rattle.theory.proofs.Summary.{AllLawful, summarise-all, summary-good}
+use Rattle.theory.proofs.Summary.{AllFormed, summarise-all, summary-good}
 use Rattle.theory.specs.Expand.{Definition, aritiesOf, bodyIn, brought, own, summariesFrom}
 use Rattle.theory.specs.Lists.{All}
 use Rattle.theory.specs.Term.{Reading, eval, longWay}
@@ -46,8 +46,8 @@ pub record MeansBelow {A : Type 0} (M : Reading A) (Good : A → Type 0) (s : St
   pub exact : (g : ℕ) (vs : List A) → g < D → length vs ≡ paramsOf s g → All Good vs → G g vs ≡ eval M vs [] (bodyIn (templatesOf s) g)
 
 module _ (s : State) (rs : List Row) (w : Worlds s rs) (sound : SoundFrom [] (s .definitions)) (D : ℕ) (l : D < length (s .definitions)) where
-  lawful : AllLawful [] (meanings s)
-  lawful = all-lawful [] (s .definitions) sound
+  lawful : AllFormed [] (meanings s)
+  lawful = all-formed [] (s .definitions) sound
 
   there : D < length (meanings s)
   there = rw (length-meanings s) l
@@ -138,7 +138,7 @@ module _ (s : State) (rs : List Row) (w : Worlds s rs) (sound : SoundFrom [] (s 
 card-good : (s : State) → SoundFrom [] (s .definitions) → (g : ℕ) (ρ : List ℕ) → All IsLevel ρ → IsLevel (cardLevel s g ρ)
 card-good s sound g ρ a =
     summary-good longWay IsLevel levels-kept (templatesOf s) (summariesFrom longWay [] [] (meanings s))
-    (summarise-all longWay IsLevel levels-kept [] [] (meanings s) tt (all-lawful [] (s .definitions) sound)) g ρ a
+    (summarise-all longWay IsLevel levels-kept [] [] (meanings s) tt (all-formed [] (s .definitions) sound)) g ρ a
 
 -- The rows of an accepted file
 abbrev pub fileFields : (file : List ℕ) (s : State) → judgeFile file ≡ result s → List Field
@@ -154,7 +154,8 @@ file-worlds file s e =
 pub file-sound : (file : List ℕ) (s : State) → judgeFile file ≡ result s → SoundFrom [] (s .definitions)
 file-sound file s e = good-file file s e .sound
 
--- every text, and every substitute along its chain, names only what is declared where it stands
+-- a text brought through instances, and every substitute along its chain but the outermost, names only what the module instanced declares (of the
+-- outermost, and of an own text, `Declared.texts-declared` says it by the module's context)
 pub file-declared : (file : List ℕ) (s : State) (e : judgeFile file ≡ result s) (D : ℕ) → D < length (s .definitions)
     → AllDeclared AnyName (worldOf (fileRows file s e) D) (textOf s (fileRows file s e) D)
 file-declared file s e D l =

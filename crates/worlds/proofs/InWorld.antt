@@ -9,7 +9,7 @@ use lib.ListN.{length}
 use native.Mathlib.Omega.{arith}
 use Prim.Native.Nat.{_+_, _<_, _≤_, ℕ}
 use Rattle.theory.proofs.Demand3.{template-formed}
-use Rattle.theory.proofs.Summary.{AllLawful}
+use Rattle.theory.proofs.Summary.{AllFormed}
 use Rattle.theory.specs.Expand.{Definition, Template, aritiesOf, bodyIn, brought, own, templates}
 use Rattle.theory.specs.Lists.{All}
 use Rattle.theory.specs.Term.{Arities, Reading, Term, WellFormed, eval, kindArity}
@@ -66,7 +66,7 @@ settled-uses : (ts : List Template) (D : ℕ) (d : Definition) → Settled ts D 
 settled-uses ts D (own n t) s = s .uses
 settled-uses ts D (brought p σ g) s = s .uses
 
-module _ (ds : List Definition) (lawful : AllLawful [] ds) (bs : List Run) (disjoint : Disjoint bs) where
+module _ (ds : List Definition) (lawful : AllFormed [] ds) (bs : List Run) (disjoint : Disjoint bs) where
   uses-there : (w : World) (g D : ℕ) → Comes ds bs w g D → D < length ds → UsesOnly (λ h. mayName w g D h ≡ true) (definitionIn ds g)
   uses-there [] g D e l =
       subst (λ (i : ℕ). UsesOnly (λ h. ltb h D ≡ true) (definitionIn ds i)) (sym e)

@@ -10,7 +10,7 @@ use native.Mathlib.Omega.{arith}
 use Prim.Native.Nat.{_+_, _<_, ℕ}
 use Rattle.laws.proofs.Formats.{some-injective}
 use Rattle.laws.proofs.Invariant.{Good, arity-known, brought-sound, source-known, substitute-formed}
-use Rattle.laws.proofs.Sound.{SoundFrom, all-lawful, arities-more, length-templates, sound-append, templates-keep}
+use Rattle.laws.proofs.Sound.{SoundFrom, all-formed, arities-more, length-templates, sound-append, templates-keep}
 use Rattle.laws.proofs.Templates.{templates-join}
 use Rattle.rules.specs.Add.{add}
 use Rattle.rules.specs.Expression.{expression}
@@ -77,7 +77,7 @@ module _ (s : State) (good : Good s) (n p m : ℕ) (ss : List Substitution) (fit
     brought-settled : Settled (templatesOf next) number (brought p (substitute s p (source s m) ss) g)
     brought-settled =
         subst (Settled (templatesOf next) number) brought-there
-        (settled (meanings next) (all-lawful [] (next .definitions) sound-instance) number (rw (length-meanings next) number-there))
+        (settled (meanings next) (all-formed [] (next .definitions) sound-instance) number (rw (length-meanings next) number-there))
 
     -- the template that cause 15 looks at is the one that the definition will have
     pub brought-template : (templateOf (templatesOf s) (bring s p (source s m) ss g)) .body ≡ bodyIn (templatesOf next) number
@@ -101,7 +101,7 @@ module _ (s : State) (good : Good s) (n p m : ℕ) (ss : List Substitution) (fit
     pub brought-level : broughtLevel s p (source s m) ss g ≡ cardLevel next number (zeros (p + paramsOf s g))
     brought-level =
         ap (λ (t : Term). eval longWay (zeros (p + paramsOf s g)) [] t) brought-template
-        ∙ sym (card-exact (meanings next) (all-lawful [] (next .definitions) sound-instance) number (zeros (p + paramsOf s g))
+        ∙ sym (card-exact (meanings next) (all-formed [] (next .definitions) sound-instance) number (zeros (p + paramsOf s g))
         (arity-there ∙ ap {B = Option ℕ} some (sym (length-replicate (p + paramsOf s g) 0))) (replicate-all IsLevel (p + paramsOf s g) 0 (lit≤ tt)))
 
     -- and so for its text in its world

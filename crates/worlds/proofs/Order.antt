@@ -7,9 +7,9 @@ use lib.Dec.{ltb}
 use lib.ListN.{getD, length}
 use native.Mathlib.Omega.{arith}
 use Prim.Native.Nat.{_+_, _<_, _≤_, ℕ}
-use Rattle.laws.proofs.Sound.{SoundFrom, all-lawful}
+use Rattle.laws.proofs.Sound.{SoundFrom, all-formed}
 use Rattle.rules.specs.State.{State, meanings}
-use Rattle.theory.proofs.Summary.{AllLawful}
+use Rattle.theory.proofs.Summary.{AllFormed}
 use Rattle.theory.specs.Expand.{Definition, aritiesOf, bodyIn, templates}
 use Rattle.theory.specs.Term.{Kind, kindArity}
 use Rattle.worlds.proofs.File.{is-text}
@@ -23,7 +23,7 @@ use Rattle.worlds.proofs.Uses.{restricted-some, uses-all}
 use Rattle.worlds.specs.Rows.{Row, worldOf}
 use Rattle.worlds.specs.World.{BeforeStarts, Link, Uses, World, brings, numberIn, paramsIn, place, startIn}
 
-module _ (ds : List Definition) (lawful : AllLawful [] ds) (bs : List Run) (disjoint : Disjoint bs) where
+module _ (ds : List Definition) (lawful : AllFormed [] ds) (bs : List Run) (disjoint : Disjoint bs) where
   -- the definitions of a world
   pub region : (l : Link) (w : World) (g D : ℕ) → Comes ds bs (l ∷ w) g D → (startIn (l ∷ w) ≤ D) × (D < startIn (l ∷ w) + length (l .names))
   region l w g D c =
@@ -58,7 +58,7 @@ module _ (ds : List Definition) (lawful : AllLawful [] ds) (bs : List Run) (disj
       first-place (y ∷ ys) k = place-here y ys
 
 -- so for every world along a chain
-pub before-starts : (ds : List Definition) → AllLawful [] ds → (bs : List Run) → Disjoint bs → (w : World) (g D : ℕ) → Comes ds bs w g D → D < length ds → BeforeStarts w
+pub before-starts : (ds : List Definition) → AllFormed [] ds → (bs : List Run) → Disjoint bs → (w : World) (g D : ℕ) → Comes ds bs w g D → D < length ds → BeforeStarts w
 before-starts ds lawful bs disjoint [] g D c l = tt
 before-starts ds lawful bs disjoint (k ∷ w) g D c l =
     (substitutes-before ds lawful bs disjoint k w g D c l, before-starts ds lawful bs disjoint w (brings k g) D (c .2) l)
@@ -66,4 +66,4 @@ before-starts ds lawful bs disjoint (k ∷ w) g D c l =
 pub world-before : (s : State) (rs : List Row) → Worlds s rs → SoundFrom [] (s .definitions) → (D : ℕ) → D < length (s .definitions) → BeforeStarts (worldOf rs D)
 world-before s rs w sound D l =
     let x = is-text s rs w sound D l in
-    before-starts (meanings s) (all-lawful [] (s .definitions) sound) (w .runs) (w .book .disjoint) (worldOf rs D) (x .source) D (x .comes) (x .there)
+    before-starts (meanings s) (all-formed [] (s .definitions) sound) (w .runs) (w .book .disjoint) (worldOf rs D) (x .source) D (x .comes) (x .there)

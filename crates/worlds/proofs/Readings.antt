@@ -6,7 +6,7 @@ use lib.ListN.{length, length-replicate, replicate}
 use native.Mathlib.Nat.{zero-add}
 use Prim.Native.Nat.{_<_, suc, zero, ℕ}
 use Rattle.laws.proofs.Invariant.{arity-known}
-use Rattle.laws.proofs.Sound.{SoundFrom, all-lawful}
+use Rattle.laws.proofs.Sound.{SoundFrom, all-formed}
 use Rattle.rules.specs.State.{State, meanings, paramsOf, templatesOf}
 use Rattle.theory.proofs.Bytes.{Bytes, bytes, paramBytes, written}
 use Rattle.theory.proofs.Demand3.{template-formed}
@@ -38,7 +38,7 @@ params-length i (suc n) = ap suc (params-length (suc i) n)
 
 module _ (s : State) (rs : List Row) (w : Worlds s rs) (sound : SoundFrom [] (s .definitions)) (D : ℕ) (l : D < length (s .definitions)) where
   formed : WellFormed noDefinitions (paramsOf s D) 0 (bodyIn (templatesOf s) D)
-  formed = template-formed (meanings s) (all-lawful [] (s .definitions) sound) D (paramsOf s D) (arity-known s sound D l)
+  formed = template-formed (meanings s) (all-formed [] (s .definitions) sound) D (paramsOf s D) (arity-known s sound D l)
 
   -- the bytes of D's expansion
   pub bytes-in-world : (G : ℕ → List Bytes → Bytes) → ((g : ℕ) (vs : List Bytes) → g < D → length vs ≡ paramsOf s g → G g vs ≡ eval bytes vs [] (bodyIn (templatesOf s) g))

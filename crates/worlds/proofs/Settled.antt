@@ -11,7 +11,7 @@ use Rattle.laws.proofs.Formats.{some-injective}
 use Rattle.laws.proofs.Sound.{arities-more}
 use Rattle.theory.proofs.Later.{expand-later, formed-later, templates-later}
 use Rattle.theory.proofs.Lists.{none-some}
-use Rattle.theory.proofs.Summary.{AllLawful, Lawful}
+use Rattle.theory.proofs.Summary.{AllFormed, FormedDefinition}
 use Rattle.theory.specs.Expand.{Definition, Template, aritiesOf, bodyIn, brought, expand, instantiate, noTemplate, own, templateOf, templates, templatesFrom}
 use Rattle.theory.specs.Term.{Kind, Term, WellFormed, kindArity}
 use Rattle.worlds.proofs.Uses.{definitionIn, uses-all}
@@ -50,7 +50,7 @@ body-seam ts t us = ap (λ (l : List Template). bodyIn l (length ts + 0)) (appen
 template-stays : (ts us : List Template) (g m : ℕ) → aritiesOf ts g ≡ some m → getD (ts ++ us) g noTemplate ≡ getD ts g noTemplate
 template-stays ts us g m e = List·getD-append ts us noTemplate g (arity-below ts g m e)
 
-settled-first : (known : List Template) (d : Definition) (us : List Template) → Lawful known d → Settled ((known ++ (templateOf known d ∷ [])) ++ us) (length known + 0) d
+settled-first : (known : List Template) (d : Definition) (us : List Template) → FormedDefinition known d → Settled ((known ++ (templateOf known d ∷ [])) ++ us) (length known + 0) d
 settled-first known (own n t) us w =
     let e = append-assoc known (templateOf known (own n t) ∷ []) us in
     let r = templateOf known (own n t) ∷ us in
@@ -80,7 +80,7 @@ settled-first known (brought p σ g) us w =
       uses = λ c x. uses-all (λ h. h < length known + 0) (aritiesOf known) (p + kindArity c) (σ c x) (λ h m e. omega (arith, arity-below known h m e)) (w .0 c x);
     }
 
-settled-from : (known : List Template) (ds : List Definition) → AllLawful known ds → (D : ℕ) → D < length ds → Settled (templatesFrom known ds) (length known + D) (definitionIn ds D)
+settled-from : (known : List Template) (ds : List Definition) → AllFormed known ds → (D : ℕ) → D < length ds → Settled (templatesFrom known ds) (length known + D) (definitionIn ds D)
 settled-from known [] w D l = absurd (omega arith)
 settled-from known (d ∷ ds) w zero l =
     let r = templates-later (known ++ (templateOf known d ∷ [])) ds in
@@ -89,5 +89,5 @@ settled-from known (d ∷ ds) w (suc D) l =
     subst (λ (i : ℕ). Settled (templatesFrom known (d ∷ ds)) i (definitionIn ds D)) (rw length-append (omega arith))
     (settled-from (known ++ (templateOf known d ∷ [])) ds (w .1) D (omega arith))
 
-pub settled : (ds : List Definition) → AllLawful [] ds → (D : ℕ) → D < length ds → Settled (templates ds) D (definitionIn ds D)
+pub settled : (ds : List Definition) → AllFormed [] ds → (D : ℕ) → D < length ds → Settled (templates ds) D (definitionIn ds D)
 settled ds w D l = subst (λ (i : ℕ). Settled (templates ds) i (definitionIn ds D)) (zero-add D) (settled-from [] ds w D l)
