@@ -1,0 +1,15 @@
+pub mod Parts
+pub mod Search
+pub mod Repeats
+pub mod Answers
+pub mod Grows
+pub mod Marks
+pub mod Joins
+pub mod Lookups
+pub mod Change
+pub mod Growing
+pub mod Begins
+pub mod Adds
+pub mod Extends
+pub mod Judging
+pub mod Room

@@ -1,0 +1,53 @@
+use Prim.Native.Nat.{_-_}
+use mathlib.Core.Path.{_≡_, refl}
+use Rattle.context.proofs.Search.{instance-end, instance-hit, instance-next}
+use Rattle.context.specs.Lookup.{instanceAmong}
+use Rattle.context.specs.Parts.{part}
+use borrow.Author.Needs.{needs}
+use Rattle.context.proofs.lookup.instance_among.Statement.{statement}
+use Rattle.context.proofs.lookup.instance_among.Tie as tie
+
+abbrev Inv-loop : tie.InvT-loop
+Inv-loop facts contexts from end i₀ i = instanceAmong facts (part contexts i (end - i)) ≡ instanceAmong facts (part contexts from (end - from))
+
+abbrev μ-loop : tie.MeasureT-loop
+μ-loop facts contexts from end i₀ i = end - i
+
+loop-holds : tie.Need-loop-holds Inv-loop μ-loop
+loop-holds c = refl
+
+number-at-requires : tie.Need-number-at-requires Inv-loop μ-loop
+number-at-requires c κs = search needs
+
+is-instance-requires : tie.Need-is-instance-requires Inv-loop μ-loop
+is-instance-requires c κs = search needs
+
+returns : tie.Need-returns Inv-loop μ-loop
+returns c = search instance-hit
+
+add-i : tie.Need-add-i Inv-loop μ-loop
+add-i c = search needs
+
+loop-less : tie.Need-loop-less Inv-loop μ-loop
+loop-less c = search needs
+
+loop-again : tie.Need-loop-again Inv-loop μ-loop
+loop-again c = search instance-next
+
+returns-2 : tie.Need-returns-2 Inv-loop μ-loop
+returns-2 c = search instance-end
+
+pub instance-among-spec : {M : Type 1} → statement M
+instance-among-spec =
+    tie.close
+    (tie.spec
+    Inv-loop
+    μ-loop
+    loop-holds
+    number-at-requires
+    is-instance-requires
+    returns
+    add-i
+    loop-less
+    loop-again
+    returns-2)

@@ -1,0 +1,5 @@
+pub mod Parts
+pub mod Store
+pub mod Lookup
+pub mod Joining
+pub mod Holds
