@@ -1,0 +1,3 @@
+pub mod Tables
+pub mod Six
+pub mod Walk

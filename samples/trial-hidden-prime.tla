@@ -1,0 +1,6 @@
+(* A trial line of paper 01 that is not level-correct: refused with 12. *)
+
+---- MODULE Trial ----
+VARIABLES x, y
+Bad == \EE z : z'
+====
