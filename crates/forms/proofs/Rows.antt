@@ -14,7 +14,8 @@ use Rattle.theory.specs.Lists.{All, find, mapOption, sameNumbers}
 use Rattle.forms.specs.declared.Tests.{Tests}
 use Rattle.forms.specs.declared.Form.{Form}
 use Rattle.forms.specs.Forms.{demandMask, form, levelAt, levelsAt, pass, passed, takes}
-use Rattle.forms.specs.Numbers.{RowNumbers, demandOf, maskBits, resultNumber, rowMasks, rowResult}
+use Rattle.forms.specs.Numbers.{RowNumbers, demandOf}
+use Rattle.rows.specs.Rows.{maskBits, masks, resultNumber, rowResult}
 use Rattle.forms.proofs.Combining.{ask, highestForm, leaf, level-fixed, level-highest, level-le, level-leaf, pass-ask}
 use Rattle.forms.proofs.Testing.{both, none as noTests, pass-both, pass-none}
 
@@ -239,13 +240,13 @@ few-by (always l) (m ∷ k ∷ []) t n result e q h = sym e
 few-by (always l) (m ∷ k ∷ j ∷ ms) t n result e q h = absurd (and-parts (leb l 4) false t .1)
 
 -- the same of an optional row
-one-in : (o : Option Row) → Fine o → (result mask x : ℕ) → Count o 1 → Fixed (rowResult o) result → mask ≡ maskBits (getD (rowMasks o) 0 anyLevel)
+one-in : (o : Option Row) → Fine o → (result mask x : ℕ) → Count o 1 → Fixed (rowResult o) result → mask ≡ maskBits (getD (masks o) 0 anyLevel)
     → passed (takes (demandOf mask) x) result ≡ rowLevel o (x ∷ [])
 one-in none f result mask x e q m = none-some 1 e
 one-in (some r) f result mask x e q m = one-by (r .result) (r .takes) f result mask x (some-same (length (r .takes)) 1 e) q m
 
-two-in : (o : Option Row) → Fine o → (result mask₀ mask₁ x y : ℕ) → Count o 2 → Fixed (rowResult o) result → mask₀ ≡ maskBits (getD (rowMasks o) 0 anyLevel)
-    → mask₁ ≡ maskBits (getD (rowMasks o) 1 anyLevel) → passed (takes (demandOf mask₀) x && takes (demandOf mask₁) y) result ≡ rowLevel o (x ∷ y ∷ [])
+two-in : (o : Option Row) → Fine o → (result mask₀ mask₁ x y : ℕ) → Count o 2 → Fixed (rowResult o) result → mask₀ ≡ maskBits (getD (masks o) 0 anyLevel)
+    → mask₁ ≡ maskBits (getD (masks o) 1 anyLevel) → passed (takes (demandOf mask₀) x && takes (demandOf mask₁) y) result ≡ rowLevel o (x ∷ y ∷ [])
 two-in none f result mask₀ mask₁ x y e q m k = none-some 2 e
 two-in (some r) f result mask₀ mask₁ x y e q m k = two-by (r .result) (r .takes) f result mask₀ mask₁ x y (some-same (length (r .takes)) 2 e) q m k
 

@@ -1,51 +1,30 @@
 -- The rows of built-in codes: their numbers, and what holds of every row.
 use borrow.Author.Tests.{leb-false}
-use mathlib.Core.Path.{_≡_, refl, sym, ap, _∙_}
-use mathlib.Core.List.{List, [], _∷_}
 use mathlib.Core.Bool.{false}
+use mathlib.Core.List.{List}
 use mathlib.Core.Option.{Option, some}
-use mathlib.Core.Option.{none as absent}
-use Prim.Native.Nat.{ℕ, _+_, _^_, _≤_, _<_, min}
-use native.Mathlib.Omega.{arith}
+use mathlib.Core.Path.{_∙_, _≡_, ap, refl, sym}
 use lib.Dec.{leb}
-use lib.ListN.{getD, length, take}
-use Rattle.theory.proofs.Lists.{any-false, find-has}
-use Rattle.theory.specs.Level.{Mask, Result, Row, always, anyLevel, builtinLevel, codeArity, has, row, rowBinder, rowLevel, table, theHighest, variableLevel}
-use Rattle.theory.specs.Lists.{mapOption}
-use Rattle.rows.specs.Rows.{arityNumber, arityOf, boundLevelOf, maskBitsOf, masks, resultOf}
-use Rattle.rows.specs.Rows.{maskBits as bitsOfRows, resultNumber as numberOfRows, rowResult as resultOfRows}
-use Rattle.forms.specs.declared.Form.{Form}
+use lib.ListN.{length, take}
+use native.Mathlib.Omega.{arith}
+use Prim.Native.Nat.{_<_, _≤_, min, ℕ}
 use Rattle.forms.specs.Forms.{Fit, Gives, levelsAt}
+use Rattle.forms.specs.Numbers.{RowNumbers}
 use Rattle.levels.specs.Walk.{builtInMeans}
-use Rattle.forms.specs.Numbers.{RowNumbers, maskBits, resultNumber, rowMasks, rowResult}
+use Rattle.rows.specs.Rows.{arityNumber, arityOf, boundLevelOf, maskBitsOf, resultOf}
+use Rattle.theory.proofs.Form.{at}
+use Rattle.theory.proofs.Lists.{any-false, find-has}
+use Rattle.theory.specs.Level.{Row, builtinLevel, codeArity, has, row, rowLevel, table}
+use Rattle.theory.specs.Lists.{mapOption}
+use Rattle.theory.specs.Tree.{count}
+use mathlib.Core.Option.{none as absent}
+use Rattle.texts.proofs.Levels.{bound-low as variable-low}
+use Rattle.forms.specs.declared.Form.{Form}
 
 -- a bound variable is at 0 or 1
 pub bound-low : (c : ℕ) → boundLevelOf c ≤ 1
-unfolding boundLevelOf row
-bound-low c = at (row c) refl
-  where
-    at : (o : Option Row) → row c ≡ o → variableLevel (rowBinder o) ≤ 1
-    at absent p = omega arith
-    at (some r) p =
-        let h = find-has (λ (r : Row). leb 2 (variableLevel (r .binder)) ≡ false) (has c) table r (any-false (λ (r : Row). leb 2 (variableLevel (r .binder))) table refl) p in
-        omega (arith, leb-false 2 (variableLevel (r .binder)) (h .0))
-
--- the two crates' numbers of a row are the same
-same-bits : (m : Mask) → bitsOfRows m ≡ maskBits m
-same-bits [] = refl
-same-bits (l ∷ ls) = ap (λ (n : ℕ). 2 ^ l + n) (same-bits ls)
-
-same-masks : (o : Option Row) → masks o ≡ rowMasks o
-same-masks absent = refl
-same-masks (some r) = refl
-
-same-number : (r : Result) → numberOfRows r ≡ resultNumber r
-same-number theHighest = refl
-same-number (always l) = refl
-
-same-result : (o : Option Row) → resultOfRows o ≡ rowResult o
-same-result absent = refl
-same-result (some r) = refl
+unfolding boundLevelOf
+bound-low c = variable-low c
 
 known : (o : Option ℕ) (n : ℕ) → n ≡ arityNumber o → n ≤ 6 → o ≡ some n
 known absent n e h = absurd (omega arith)
@@ -54,13 +33,7 @@ known (some m) n e h = ap {B = Option ℕ} some (sym e)
 pub row-numbers : (c n result first second : ℕ) → n ≡ arityOf c → n ≤ 6 → result ≡ resultOf c → first ≡ maskBitsOf c 0 → second ≡ maskBitsOf c 1
     → RowNumbers c n result first second
 unfolding arityOf resultOf maskBitsOf
-row-numbers c n result first second en h er ef es =
-    record {
-      count = known (codeArity c) n en h;
-      gives = er ∙ same-number (resultOfRows (row c)) ∙ ap resultNumber (same-result (row c));
-      first = ef ∙ same-bits (getD (masks (row c)) 0 anyLevel) ∙ ap (λ (l : List Mask). maskBits (getD l 0 anyLevel)) (same-masks (row c));
-      second = es ∙ same-bits (getD (masks (row c)) 1 anyLevel) ∙ ap (λ (l : List Mask). maskBits (getD l 1 anyLevel)) (same-masks (row c));
-    }
+row-numbers c n result first second en h er ef es = record { count = known (codeArity c) n en h; gives = er; first = ef; second = es }
 
 -- no row has more than three arguments, so that a code of more does not exist
 pub no-row-level : (c : ℕ) (ls : List ℕ) → 3 < arityOf c → builtinLevel c ls ≡ 4

@@ -81,7 +81,7 @@ scoped-by (setThenBody c) (t ▹ u ▹ ⟨⟩) v bits β l e h = (refl, bits-mor
 scoped-by (setThenBody c) (t ▹ u ▹ w ▹ ts) v bits β l e h = absurd (omega (arith, eqb→eq (count (t ▹ u ▹ w ▹ ts)) 2 h))
 
 -- a bound variable is at 0 or 1
-bound-low : (c : ℕ) → boundLevel c ≤ 1
+pub bound-low : (c : ℕ) → boundLevel c ≤ 1
 unfolding row
 bound-low c = at (row c) refl
   where
