@@ -1,0 +1,1 @@
+// The level of a text by tables is its level by the rules: proofs/.
