@@ -1,0 +1,140 @@
+//! Times one or two level checkers on realistic files and on hostile families.
+
+use differential::cases::{Call, Case};
+use differential::checker::Checker;
+use differential::checker_named;
+use differential::families::{self, Family};
+use std::process::ExitCode;
+use std::time::{Duration, Instant};
+
+const USAGE: &str = "bench [--left CHECKER] [--right CHECKER] [--rounds N] [--large]";
+
+struct Arguments {
+    left: String,
+    right: Option<String>,
+    rounds: usize,
+    large: bool,
+}
+
+fn arguments() -> Result<Arguments, String> {
+    let mut parsed = Arguments {
+        left: "reference".into(),
+        right: cfg!(feature = "proved").then(|| "proved".into()),
+        rounds: 5,
+        large: false,
+    };
+    let mut given = std::env::args().skip(1);
+    while let Some(option) = given.next() {
+        if option == "--large" {
+            parsed.large = true;
+            continue;
+        }
+        let value = given.next().ok_or(format!("{option} needs a value"))?;
+        match option.as_str() {
+            "--left" => parsed.left = value,
+            "--right" => parsed.right = Some(value),
+            "--rounds" => {
+                let rounds = value.parse();
+                parsed.rounds = rounds.map_err(|_| format!("{value} is not a number"))?;
+            }
+            _ => return Err(format!("no option is named {option}")),
+        }
+    }
+    Ok(parsed)
+}
+
+/// Memory to lend, kept from call to call.
+struct Memory {
+    cards: Vec<u8>,
+    out: Vec<u8>,
+}
+
+fn call(checker: &dyn Checker, family: &Family, memory: &mut Memory) -> u64 {
+    let (file, cards) = (&family.file[..], &mut memory.cards[..]);
+    match &family.call {
+        Call::Check => checker.check(file, cards) as u64,
+        Call::Level {
+            module,
+            expr,
+            levels,
+        } => checker.level(file, cards, *module, expr, levels) as u64,
+        Call::Expand {
+            module,
+            expr,
+            params,
+            room,
+        } => {
+            let out = &mut memory.out[..*room];
+            checker.expand(file, cards, *module, expr, *params, out) as u64
+        }
+        Call::Alike { a, b } => checker.alike(file, cards, *a, *b) as u64,
+        Call::Body { d } => checker.body(file, cards, *d),
+    }
+}
+
+/// The best time of several rounds; slow ones are not repeated often.
+fn best(checker: &dyn Checker, family: &Family, rounds: usize, memory: &mut Memory) -> Duration {
+    let begin = Instant::now();
+    let mut best = Duration::MAX;
+    for _ in 0..rounds.max(1) {
+        let start = Instant::now();
+        std::hint::black_box(call(checker, family, memory));
+        best = best.min(start.elapsed());
+        if begin.elapsed() > Duration::from_secs(2) {
+            break;
+        }
+    }
+    best
+}
+
+fn run() -> Result<(), String> {
+    let given = arguments()?;
+    let left = checker_named(&given.left)?;
+    let right = given.right.as_deref().map(checker_named).transpose()?;
+    let mut memory = Memory {
+        cards: vec![0; 32_000],
+        out: vec![0; 70_000],
+    };
+    print!(
+        "{:40} {:>7} {:>18} {:>12}",
+        "", "bytes", "reply", "left (ms)"
+    );
+    match &right {
+        Some(_) => println!(" {:>12} {:>7}", "right (ms)", "ratio"),
+        None => println!(),
+    }
+    let milliseconds = |time: Duration| time.as_secs_f64() * 1e3;
+    let families = [
+        families::usual(),
+        families::checks(),
+        families::queries(given.large),
+    ];
+    for family in families.iter().flatten() {
+        let case = Case::new(&family.file, family.call.clone());
+        let reply = case.reply(&case.run(&*left));
+        let time = best(&*left, family, given.rounds, &mut memory);
+        let bytes = family.file.len();
+        let label = &family.label;
+        print!(
+            "{label:40} {bytes:>7} {reply:>18} {:>12.3}",
+            milliseconds(time)
+        );
+        if let Some(right) = &right {
+            let other = best(&**right, family, given.rounds, &mut memory);
+            let ratio = other.as_secs_f64() / time.as_secs_f64();
+            print!(" {:>12.3} {ratio:>7.2}", milliseconds(other));
+        }
+        println!();
+    }
+    Ok(())
+}
+
+fn main() -> ExitCode {
+    match run() {
+        Ok(()) => ExitCode::SUCCESS,
+        Err(error) => {
+            eprintln!("{error}\nusage: {USAGE}");
+            ExitCode::FAILURE
+        }
+    }
+}

@@ -1,0 +1,92 @@
+//! Compares two level checkers on generated files.
+
+use differential::checker_named;
+use differential::faulty::FAULTS;
+use differential::runner::{run, Options, DEFAULT_FILES, DEFAULT_SEED};
+use std::process::ExitCode;
+
+const USAGE: &str = "differential [--files N] [--seed S] [--left CHECKER] [--right CHECKER] \
+                     [--queries]";
+
+struct Arguments {
+    options: Options,
+    left: String,
+    right: String,
+}
+
+fn arguments() -> Result<Arguments, String> {
+    let mut parsed = Arguments {
+        options: Options {
+            files: DEFAULT_FILES,
+            seed: DEFAULT_SEED,
+            queries: false,
+            families: false,
+        },
+        left: "reference".into(),
+        right: if cfg!(feature = "proved") {
+            "proved".into()
+        } else {
+            "reference".into()
+        },
+    };
+    let mut given = std::env::args().skip(1);
+    while let Some(option) = given.next() {
+        if option == "--queries" {
+            parsed.options.queries = true;
+            parsed.options.families = true;
+            continue;
+        }
+        let value = given.next().ok_or(format!("{option} needs a value"))?;
+        let number = || {
+            let number = value.parse::<u64>();
+            number.map_err(|_| format!("{value} is not a number"))
+        };
+        match option.as_str() {
+            "--files" => parsed.options.files = number()?,
+            "--seed" => parsed.options.seed = number()?,
+            "--left" => parsed.left = value,
+            "--right" => parsed.right = value,
+            _ => return Err(format!("no option is named {option}")),
+        }
+    }
+    Ok(parsed)
+}
+
+fn compare() -> Result<bool, String> {
+    let Arguments {
+        options,
+        left,
+        right,
+    } = arguments()?;
+    let (left, right) = (checker_named(&left)?, checker_named(&right)?);
+    let (files, seed) = (options.files, options.seed);
+    println!("{} and {}, seed {seed}", left.name(), right.name());
+    let report = run(&*left, &*right, options);
+    if let Some(difference) = &report.difference {
+        print!("{difference}");
+        return Ok(false);
+    }
+    print!("{report}");
+    let missing = report.coverage.missing(options.queries);
+    for what in &missing {
+        println!("MISSING {what}");
+    }
+    if !missing.is_empty() {
+        println!("{} kinds did not occur in {files} files", missing.len());
+    }
+    Ok(missing.is_empty())
+}
+
+fn main() -> ExitCode {
+    match compare() {
+        Ok(true) => ExitCode::SUCCESS,
+        Ok(false) => ExitCode::FAILURE,
+        Err(error) => {
+            let faults: Vec<&str> = FAULTS.iter().map(|(name, _)| *name).collect();
+            eprintln!("{error}\nusage: {USAGE}");
+            eprintln!("checkers: reference, proved, faulty:NAME");
+            eprintln!("NAME: {}", faults.join(", "));
+            ExitCode::FAILURE
+        }
+    }
+}

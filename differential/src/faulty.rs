@@ -1,0 +1,420 @@
+//! The reference with a fault put in, to try the comparison out.
+
+use crate::checker::{body_refusal, refusal, refused, Checker, Reference, BODY_REFUSED};
+
+/// A fault that a checker could have.
+#[derive(Clone, Copy, Debug, PartialEq, Eq)]
+pub enum Fault {
+    /// The place of a refusal by a field is one too high.
+    PlaceNext,
+    /// A file that ends inside a module is refused at its last field.
+    PlaceOfOpenFile,
+    /// Cause 18 has a place.
+    PlaceOfEighteen,
+    /// An unknown name is reported as a wrong argument count.
+    NineAsTen,
+    /// An unlawful substitute is reported as a brought level.
+    FourteenAsFifteen,
+    /// The first card is copied to the second.
+    CardCopied,
+    /// The first card is copied to all others.
+    OneCard,
+    /// Cards stay at 0.
+    CardsAtZero,
+    /// A brought definition has its original's card.
+    SourceCard,
+    /// ENABLED is levelled like an operator of one argument.
+    EnabledPlain,
+    /// \EE is levelled like another binder.
+    HidingPlain,
+    /// A refusal leaves the cards as they were.
+    CardsKept,
+    /// A refusal leaves the last byte of the cards.
+    ZeroedShort,
+    /// A refusal clears all the memory lent.
+    ZeroedBeyond,
+    /// Acceptance clears the byte after the last card.
+    PastLastCard,
+    /// Short card memory is cleared.
+    ShortMemoryCleared,
+    /// Card memory of exactly 32,000 bytes is too short.
+    MemoryOneMore,
+    /// A query's own refusal clears the cards.
+    QueryClears,
+    /// An unknown module or definition clears the cards.
+    UnknownClears,
+    /// A level query fills no cards.
+    LevelFillsNothing,
+    /// The level is worked out in the first module.
+    OtherModule,
+    /// A given level of 5 is taken for 4.
+    LevelFive,
+    /// A fourth parameter is left out.
+    FourthParameter,
+    /// Module 0 is the first module.
+    ModuleZero,
+    /// An expansion needs one byte more than it has.
+    EighteenEarly,
+    /// An expansion of 65,535 bytes is too long.
+    LongestRefused,
+    /// Part of an expansion is written though it is too long.
+    OutputOnRefusal,
+    /// A byte after the expansion is changed.
+    OutputPastEnd,
+    /// Bound indices of an expansion are one too low.
+    IndexUnmoved,
+    /// Alike looks at the cards only.
+    AlikeByCards,
+    /// A definition is alike itself even if there is none.
+    AlikeItself,
+    /// The body of a brought definition is empty.
+    BroughtBody,
+    /// The body starts one byte early.
+    BodyStart,
+    /// A file of 32,768 bytes is too large.
+    LargestRefused,
+    /// The definition of number 255 is one too many.
+    DefinitionLimit,
+}
+
+/// Every fault with its name.
+pub const FAULTS: [(&str, Fault); 35] = [
+    ("place-next", Fault::PlaceNext),
+    ("place-of-open-file", Fault::PlaceOfOpenFile),
+    ("place-of-eighteen", Fault::PlaceOfEighteen),
+    ("nine-as-ten", Fault::NineAsTen),
+    ("fourteen-as-fifteen", Fault::FourteenAsFifteen),
+    ("card-copied", Fault::CardCopied),
+    ("one-card", Fault::OneCard),
+    ("cards-at-zero", Fault::CardsAtZero),
+    ("source-card", Fault::SourceCard),
+    ("enabled-plain", Fault::EnabledPlain),
+    ("hiding-plain", Fault::HidingPlain),
+    ("cards-kept", Fault::CardsKept),
+    ("zeroed-short", Fault::ZeroedShort),
+    ("zeroed-beyond", Fault::ZeroedBeyond),
+    ("past-last-card", Fault::PastLastCard),
+    ("short-memory-cleared", Fault::ShortMemoryCleared),
+    ("memory-one-more", Fault::MemoryOneMore),
+    ("query-clears", Fault::QueryClears),
+    ("unknown-clears", Fault::UnknownClears),
+    ("level-fills-nothing", Fault::LevelFillsNothing),
+    ("other-module", Fault::OtherModule),
+    ("level-five", Fault::LevelFive),
+    ("fourth-parameter", Fault::FourthParameter),
+    ("module-zero", Fault::ModuleZero),
+    ("eighteen-early", Fault::EighteenEarly),
+    ("longest-refused", Fault::LongestRefused),
+    ("output-on-refusal", Fault::OutputOnRefusal),
+    ("output-past-end", Fault::OutputPastEnd),
+    ("index-unmoved", Fault::IndexUnmoved),
+    ("alike-by-cards", Fault::AlikeByCards),
+    ("alike-itself", Fault::AlikeItself),
+    ("brought-body", Fault::BroughtBody),
+    ("body-start", Fault::BodyStart),
+    ("largest-refused", Fault::LargestRefused),
+    ("definition-limit", Fault::DefinitionLimit),
+];
+
+impl Fault {
+    pub fn named(name: &str) -> Option<Fault> {
+        let mut found = FAULTS.iter().filter(|(of, _)| *of == name);
+        found.next().map(|&(_, fault)| fault)
+    }
+
+    /// Whether only large files show the fault.
+    pub fn is_large(self) -> bool {
+        matches!(self, Fault::LargestRefused | Fault::DefinitionLimit)
+    }
+}
+
+/// The reference with one fault.
+pub struct Faulty(pub Fault);
+
+const CARDS: usize = 32_000;
+
+/// The first module's name.
+fn first_module(file: &[u8]) -> u16 {
+    match file {
+        [_, _, _, high, low, ..] => u16::from_be_bytes([*high, *low]),
+        _ => 0,
+    }
+}
+
+/// Puts a code for another in the bodies of definitions.
+fn recoded(file: &[u8], from: u8, to: u8) -> Vec<u8> {
+    use crate::syntax::{fields, file as written, Expr};
+    fn recode(expr: &mut Expr, from: u8, to: u8) {
+        if let Expr::BuiltIn(code, _) = expr {
+            if *code == from {
+                *code = to;
+            }
+        }
+        let parts = expr.arguments_mut().iter_mut();
+        parts.for_each(|part| recode(part, from, to));
+    }
+    let mut fields = fields(file);
+    for field in &mut fields {
+        let expressions = field.expressions_mut().into_iter();
+        expressions.for_each(|expr| recode(expr, from, to));
+    }
+    written(&fields)
+}
+
+impl Faulty {
+    fn is(&self, fault: Fault) -> bool {
+        self.0 == fault
+    }
+
+    /// What the call sees of the file.
+    fn seen(&self, file: &[u8]) -> Vec<u8> {
+        match self.0 {
+            Fault::EnabledPlain => recoded(file, 113, 16),
+            Fault::HidingPlain => recoded(file, 140, 128),
+            _ => file.to_vec(),
+        }
+    }
+
+    /// Spoils reply and cards of a file; `None` leaves the reply.
+    fn spoil(&self, file: &[u8], before: &[u8], cards: &mut [u8]) -> Option<u32> {
+        let mut right = vec![0; CARDS];
+        let verdict = Reference.check(file, &mut right);
+        if before.len() < CARDS {
+            if self.is(Fault::ShortMemoryCleared) {
+                cards.fill(0);
+            }
+            return None;
+        }
+        if self.is(Fault::MemoryOneMore) && before.len() == CARDS {
+            cards.copy_from_slice(before);
+            return Some(refused(1, 0));
+        }
+        if self.is(Fault::LargestRefused) && file.len() == 32_768 {
+            cards[..CARDS].fill(0);
+            return Some(refused(2, 0));
+        }
+        match refusal(verdict) {
+            Some((cause, place)) => match self.0 {
+                Fault::PlaceNext if cause > 2 => Some(verdict + 1),
+                Fault::PlaceOfOpenFile if cause == 4 && place > 0 => {
+                    let whole = [file, &[7, 0, 0]].concat();
+                    let closed = Reference.check(&whole, &mut right) <= 256;
+                    closed.then(|| verdict - 1)
+                }
+                Fault::NineAsTen if cause == 9 => Some(refused(10, place)),
+                Fault::FourteenAsFifteen if cause == 14 => Some(refused(15, place)),
+                Fault::CardsKept => {
+                    cards.copy_from_slice(before);
+                    None
+                }
+                Fault::ZeroedShort => {
+                    cards[CARDS - 1] = before[CARDS - 1];
+                    None
+                }
+                Fault::ZeroedBeyond => {
+                    cards.fill(0);
+                    None
+                }
+                _ => None,
+            },
+            None => self.spoil_cards(file, verdict as usize, before, cards),
+        }
+    }
+
+    fn spoil_cards(
+        &self,
+        file: &[u8],
+        count: usize,
+        before: &[u8],
+        cards: &mut [u8],
+    ) -> Option<u32> {
+        let first = cards[..125].to_vec();
+        match self.0 {
+            Fault::CardCopied if count > 1 => cards[125..250].copy_from_slice(&first),
+            Fault::OneCard => {
+                let filled = cards[..125 * count].chunks_exact_mut(125);
+                filled.for_each(|card| card.copy_from_slice(&first));
+            }
+            Fault::CardsAtZero => cards[..125 * count].fill(0),
+            Fault::PastLastCard if 125 * count < cards.len() => cards[125 * count] = 0,
+            Fault::SourceCard => {
+                // Few, since every look at a body checks the file.
+                for d in 1..count.min(30) {
+                    if let Some(source) = source(file, d) {
+                        let card = cards[125 * source..125 * (source + 1)].to_vec();
+                        cards[125 * d..125 * (d + 1)].copy_from_slice(&card);
+                    }
+                }
+            }
+            Fault::DefinitionLimit if count == 256 => {
+                cards.copy_from_slice(before);
+                cards[..CARDS].fill(0);
+                return Some(refused(5, 0));
+            }
+            _ => (),
+        }
+        None
+    }
+
+    /// Spoils the cards after a query that the file let through.
+    fn spoil_query(&self, reply: Option<(u32, u32)>, cards: &mut [u8]) {
+        match reply {
+            Some((17, _)) if self.is(Fault::UnknownClears) => cards[..CARDS].fill(0),
+            Some((3..=10 | 18, _)) if self.is(Fault::QueryClears) => cards[..CARDS].fill(0),
+            _ => (),
+        }
+    }
+
+    fn accepts(file: &[u8], cards: &[u8]) -> bool {
+        cards.len() >= CARDS && Reference.check(file, &mut vec![0; CARDS]) <= 256
+    }
+}
+
+/// The first definition with the same body, if it comes earlier.
+fn source(file: &[u8], d: usize) -> Option<usize> {
+    let mut cards = vec![0; CARDS];
+    let body = Reference.body(file, &mut cards, d as u32);
+    (0..d).find(|&other| Reference.body(file, &mut cards, other as u32) == body)
+}
+
+impl Checker for Faulty {
+    fn name(&self) -> String {
+        let found = FAULTS.iter().find(|(_, fault)| *fault == self.0);
+        format!("faulty:{}", found.map_or("?", |(name, _)| name))
+    }
+
+    fn check(&self, file: &[u8], cards: &mut [u8]) -> u32 {
+        let before = cards.to_vec();
+        let file = &self.seen(file)[..];
+        let reply = Reference.check(file, cards);
+        self.spoil(file, &before, cards).unwrap_or(reply)
+    }
+
+    fn level(&self, file: &[u8], cards: &mut [u8], module: u16, expr: &[u8], levels: &[u8]) -> u32 {
+        let before = cards.to_vec();
+        let file = &self.seen(file)[..];
+        let accepted = Self::accepts(file, cards);
+        let known = Reference.level(file, cards, module, &[5, 0, 0], &[]) == 0;
+        let module = match self.0 {
+            Fault::OtherModule if known => first_module(file),
+            Fault::ModuleZero if module == 0 => first_module(file),
+            _ => module,
+        };
+        let levels: Vec<u8> = match self.0 {
+            Fault::LevelFive => levels.iter().map(|&l| if l == 5 { 4 } else { l }).collect(),
+            Fault::FourthParameter => levels.iter().copied().take(3).collect(),
+            _ => levels.to_vec(),
+        };
+        let reply = Reference.level(file, cards, module, expr, &levels);
+        if let Some(spoilt) = self.spoil(file, &before, cards) {
+            return spoilt;
+        }
+        if accepted {
+            self.spoil_query(refusal(reply), cards);
+            if self.is(Fault::LevelFillsNothing) {
+                cards.copy_from_slice(&before);
+            }
+        }
+        reply
+    }
+
+    fn expand(
+        &self,
+        file: &[u8],
+        cards: &mut [u8],
+        module: u16,
+        expr: &[u8],
+        params: u8,
+        out: &mut [u8],
+    ) -> u32 {
+        let before = cards.to_vec();
+        let lent = out.to_vec();
+        let file = &self.seen(file)[..];
+        let accepted = Self::accepts(file, cards);
+        let module = match self.0 {
+            Fault::ModuleZero if module == 0 => first_module(file),
+            _ => module,
+        };
+        let params = match self.0 {
+            Fault::FourthParameter => params.min(3),
+            _ => params,
+        };
+        let reply = Reference.expand(file, cards, module, expr, params, out);
+        if let Some(spoilt) = self.spoil(file, &before, cards) {
+            return spoilt;
+        }
+        if !accepted {
+            return reply;
+        }
+        self.spoil_query(refusal(reply), cards);
+        let length = reply as usize;
+        match (self.0, refusal(reply)) {
+            (Fault::PlaceOfEighteen, Some((18, _))) => return reply + 1,
+            (Fault::OutputOnRefusal, Some((18, _))) if !out.is_empty() => out[0] = expr[0],
+            (Fault::EighteenEarly, None) if length == out.len() => {
+                out.copy_from_slice(&lent);
+                return refused(18, 0);
+            }
+            (Fault::LongestRefused, None) if length == 65_535 => {
+                out.copy_from_slice(&lent);
+                return refused(18, 0);
+            }
+            (Fault::OutputPastEnd, None) if length < out.len() => out[length] = 0,
+            (Fault::IndexUnmoved, None) => {
+                if let Some(crate::syntax::Expr::BuiltIn(128.., _)) =
+                    crate::syntax::Expr::read(&out[..length])
+                {
+                    // The first index above 0 in an expansion under a binder.
+                    let found = (0..length.saturating_sub(2))
+                        .find(|&at| out[at..at + 2] == [1, 0] && out[at + 2] > 0);
+                    if let Some(at) = found {
+                        out[at + 2] -= 1;
+                    }
+                }
+            }
+            _ => (),
+        }
+        reply
+    }
+
+    fn alike(&self, file: &[u8], cards: &mut [u8], a: u32, b: u32) -> u32 {
+        let before = cards.to_vec();
+        let file = &self.seen(file)[..];
+        let accepted = Self::accepts(file, cards);
+        let mut reply = Reference.alike(file, cards, a, b);
+        if accepted && refusal(reply).is_none() && self.is(Fault::AlikeByCards) {
+            let card = |d: u32| &cards[125 * d as usize..125 * (d as usize + 1)];
+            reply = (card(a) == card(b)) as u32;
+        }
+        if let Some(spoilt) = self.spoil(file, &before, cards) {
+            return spoilt;
+        }
+        if accepted {
+            self.spoil_query(refusal(reply), cards);
+            if self.is(Fault::AlikeItself) && a == b {
+                return 1;
+            }
+        }
+        reply
+    }
+
+    fn body(&self, file: &[u8], cards: &mut [u8], d: u32) -> u64 {
+        let before = cards.to_vec();
+        let file = &self.seen(file)[..];
+        let accepted = Self::accepts(file, cards);
+        let reply = Reference.body(file, cards, d);
+        if let Some(spoilt) = self.spoil(file, &before, cards) {
+            return BODY_REFUSED + (spoilt & !(1 << 31)) as u64;
+        }
+        if !accepted {
+            return reply;
+        }
+        self.spoil_query(body_refusal(reply), cards);
+        let is_brought = body_refusal(reply).is_none() && source(file, d as usize).is_some();
+        match self.0 {
+            Fault::BroughtBody if is_brought => reply >> 16 << 16,
+            Fault::BodyStart if body_refusal(reply).is_none() => reply - 65_536,
+            _ => reply,
+        }
+    }
+}

@@ -1,0 +1,465 @@
+//! Compares two checkers on generated files and queries.
+
+use crate::accepted;
+use crate::cases::{Call, Case, Outcome};
+use crate::checker::Checker;
+use crate::coverage::{Coverage, Section};
+use crate::damage;
+use crate::families;
+use crate::faults::{self, Plan};
+use crate::limits;
+use crate::model::Model;
+use crate::queries;
+use crate::random::Random;
+use crate::shrink;
+use crate::substitutes;
+use crate::syntax;
+use std::fmt::{self, Display, Formatter};
+
+/// What to compare.
+#[derive(Clone, Copy, Debug)]
+pub struct Options {
+    pub files: u64,
+    pub seed: u64,
+    pub queries: bool,
+    /// Whether the hostile families and the realistic files come last.
+    pub families: bool,
+}
+
+/// Enough files for every count.
+pub const DEFAULT_FILES: u64 = 2_000;
+pub const DEFAULT_SEED: u64 = 1;
+
+impl Default for Options {
+    fn default() -> Self {
+        Options {
+            files: DEFAULT_FILES,
+            seed: DEFAULT_SEED,
+            queries: true,
+            families: false,
+        }
+    }
+}
+
+/// A case on which two checkers differ, or a checker and the long way.
+#[derive(Clone, Debug)]
+pub struct Difference {
+    /// The number of the file in the run.
+    pub number: u64,
+    pub what: String,
+    pub case: Case,
+    /// The case made small, and its difference.
+    pub shrunk: Case,
+    pub shrunk_what: String,
+}
+
+impl Display for Difference {
+    fn fmt(&self, f: &mut Formatter) -> fmt::Result {
+        writeln!(
+            f,
+            "DIFFERENCE at file {} ({} bytes): {}",
+            self.number,
+            self.case.file.len(),
+            self.what
+        )?;
+        writeln!(f, "shrunk: {}", self.shrunk_what)?;
+        write!(f, "{}", self.shrunk)
+    }
+}
+
+/// What a run found.
+#[derive(Clone, Debug, Default)]
+pub struct Report {
+    pub coverage: Coverage,
+    pub files: u64,
+    pub bytes: u64,
+    pub cases: u64,
+    pub families: u64,
+    /// Levels and expansions compared with the long way, and those it gave up on.
+    pub long_way: u64,
+    pub given_up: u64,
+    pub difference: Option<Difference>,
+}
+
+impl Display for Report {
+    fn fmt(&self, f: &mut Formatter) -> fmt::Result {
+        writeln!(
+            f,
+            "{} files of {} bytes in all, {} calls of each checker, {} of them hostile or realistic",
+            self.files, self.bytes, self.cases, self.families
+        )?;
+        writeln!(
+            f,
+            "{} answers the same the long way, which gave up {} times",
+            self.long_way, self.given_up
+        )?;
+        write!(f, "{}", self.coverage)
+    }
+}
+
+/// A generated file.
+#[derive(Clone, Debug, PartialEq, Eq)]
+pub struct Generated {
+    pub file: Vec<u8>,
+    /// What it is meant to show, to be counted if it is refused so, or accepted.
+    pub meant: Option<(Section, String, Option<Meant>)>,
+    /// Queries that come with it.
+    pub calls: Vec<Call>,
+}
+
+/// A cause, and its place if that is known.
+#[derive(Clone, Copy, Debug, PartialEq, Eq)]
+pub struct Meant {
+    pub cause: u32,
+    pub place: Option<u32>,
+}
+
+/// The bytes and modules of an accepted file to grow.
+fn size(random: &mut Random) -> (usize, usize) {
+    let size = match random.below(100) {
+        0..=9 => random.below(30),
+        10..=49 => 30 + random.below(300),
+        50..=79 => 300 + random.below(1_200),
+        80..=95 => 1_500 + random.below(5_000),
+        96..=98 => 8_000 + random.below(12_000),
+        _ => 24_000 + random.below(8_700),
+    };
+    let modules = match random.below(20) {
+        0 => 16,
+        1 => 8,
+        _ => 1 + random.below(if size < 30 { 1 } else { 5 }),
+    };
+    (size, modules)
+}
+
+/// The file of this number in a run. Numbers take turns through all the kinds of files.
+pub fn generate(seed: u64, number: u64) -> Generated {
+    let mut random = Random::part(seed, number);
+    let random = &mut random;
+    let (turn, slot) = ((number / 20) as usize, number % 20);
+    let plain = |file: Vec<u8>| Generated {
+        file,
+        meant: None,
+        calls: Vec::new(),
+    };
+    match slot {
+        2 => plain(accepted::grow_chain(random).bytes()),
+        0 | 1 => {
+            let (size, modules) = size(random);
+            plain(accepted::grow(random, size, modules).bytes())
+        }
+        3 | 4 => {
+            let number = 2 * turn + slot as usize - 3;
+            let substituted = substitutes::build(number % substitutes::count(), random);
+            let unlawful = Meant {
+                cause: 14,
+                place: None,
+            };
+            let meant = Some(unlawful).filter(|_| !substituted.lawful);
+            Generated {
+                file: substituted.file,
+                meant: Some((Section::Substitute, substituted.label, meant)),
+                calls: Vec::new(),
+            }
+        }
+        5..=12 => {
+            let plans = faults::plans();
+            let plan: Plan = plans[(8 * turn + slot as usize - 5) % plans.len()];
+            let targeted = faults::build(plan, random);
+            let meant = Meant {
+                cause: targeted.cause,
+                place: Some(targeted.place),
+            };
+            Generated {
+                file: targeted.file,
+                meant: Some((Section::Fault, plan.label(), Some(meant))),
+                calls: Vec::new(),
+            }
+        }
+        13 => {
+            let limited = limits::build(turn % limits::count(), random);
+            let meant = limited.cause.map(|cause| Meant { cause, place: None });
+            Generated {
+                file: limited.file,
+                meant: Some((Section::Limit, limited.label, meant)),
+                calls: Vec::new(),
+            }
+        }
+        14 | 15 => {
+            let (size, modules) = (20 + random.below(600), 1 + random.below(4));
+            let grown = accepted::grow(random, size, modules);
+            plain(syntax::file(&damage::fields(random, &grown.fields)))
+        }
+        16 | 17 => {
+            let (size, modules) = (random.below(500), 1 + random.below(4));
+            let mut file = accepted::grow(random, size, modules).bytes();
+            damage::bytes(random, &mut file);
+            plain(file)
+        }
+        18 if turn.is_multiple_of(4) => {
+            // Expansions at the longest length.
+            let length = random.pick(&[65_534, 65_535, 65_535, 65_536, 65_537, 30_000]);
+            let (file, expr) = queries::of_length(length);
+            let room = random.pick(&[length, length, length - 1, length + 1, 65_535, 70_000]);
+            let call = |room| Call::Expand {
+                module: 1,
+                expr: expr.clone(),
+                params: 0,
+                room,
+            };
+            Generated {
+                calls: vec![call(room), call(70_000)],
+                ..plain(file)
+            }
+        }
+        18 => plain(damage::random_bytes(random)),
+        _ => {
+            // A file that was refused while another grew.
+            let grown = accepted::grow(random, 400, 4);
+            match grown.refused.is_empty() {
+                true => plain(grown.bytes()),
+                false => plain(random.pick(&grown.refused)),
+            }
+        }
+    }
+}
+
+struct Runner<'a> {
+    left: &'a dyn Checker,
+    right: &'a dyn Checker,
+    report: Report,
+    number: u64,
+}
+
+/// Compares two checkers, up to the first difference.
+pub fn run(left: &dyn Checker, right: &dyn Checker, options: Options) -> Report {
+    let mut runner = Runner {
+        left,
+        right,
+        report: Report::default(),
+        number: 0,
+    };
+    for number in 0..options.files {
+        runner.number = number;
+        if runner.file(options).is_none() {
+            return runner.report;
+        }
+    }
+    if options.families {
+        runner.number = options.files;
+        runner.families();
+    }
+    runner.report
+}
+
+/// Most tokens of a tree of the long way.
+const FUEL: usize = 2_000;
+
+impl Runner<'_> {
+    /// Runs a case on both sides. `None` if they differ.
+    fn compare(&mut self, case: &Case) -> Option<Outcome> {
+        self.report.cases += 1;
+        let left = case.run(self.left);
+        let right = case.run(self.right);
+        let Some(what) = case.difference(&left, &right) else {
+            return Some(left);
+        };
+        let kind = case.kind(&left, &right);
+        let shrunk = shrink::shrink(case, &mut |case| {
+            let (left, right) = (case.run(self.left), case.run(self.right));
+            case.kind(&left, &right) == kind
+        });
+        let (left, right) = (shrunk.run(self.left), shrunk.run(self.right));
+        let shrunk_what = shrunk.difference(&left, &right).unwrap_or_default();
+        self.report.difference = Some(Difference {
+            number: self.number,
+            what,
+            case: case.clone(),
+            shrunk,
+            shrunk_what,
+        });
+        None
+    }
+
+    /// Compares the calls of all families. `None` at a difference.
+    fn families(&mut self) -> Option<()> {
+        let all = [
+            families::usual(),
+            families::checks(),
+            families::queries(false),
+        ];
+        for family in all.iter().flatten() {
+            self.compare(&Case::new(&family.file, family.call.clone()))?;
+            self.report.families += 1;
+        }
+        Some(())
+    }
+
+    /// Notes a difference from the long way.
+    fn astray(&mut self, case: &Case, what: String) {
+        self.report.difference = Some(Difference {
+            number: self.number,
+            shrunk: case.clone(),
+            shrunk_what: what.clone(),
+            what,
+            case: case.clone(),
+        });
+    }
+
+    /// Compares all the calls on one file. `None` at a difference.
+    fn file(&mut self, options: Options) -> Option<()> {
+        let generated = generate(options.seed, self.number);
+        let mut random = Random::part(!options.seed, self.number);
+        let random = &mut random;
+        let file = generated.file;
+        self.report.files += 1;
+        self.report.bytes += file.len() as u64;
+        let mut case = Case::new(&file, Call::Check);
+        case.fill = random.byte();
+        let outcome = self.compare(&case)?;
+        let verdict = case.refusal(&outcome);
+        self.report.coverage.case(&case, &outcome, verdict);
+        case.cards = queries::card_memory(random);
+        if case.cards != 32_000 {
+            let outcome = self.compare(&case)?;
+            self.report.coverage.case(&case, &outcome, verdict);
+        }
+        if let Some((section, label, meant)) = generated.meant {
+            let as_meant = match meant {
+                None => verdict.is_none(),
+                Some(Meant { cause, place }) => verdict.is_some_and(|(number, at)| {
+                    number == cause && place.is_none_or(|place| place == at)
+                }),
+            };
+            if as_meant {
+                self.report.coverage.count(section, label);
+            }
+        }
+        for call in generated.calls.iter().filter(|_| options.queries) {
+            let case = Case::new(&file, call.clone());
+            let outcome = self.compare(&case)?;
+            self.report.coverage.case(&case, &outcome, verdict);
+        }
+        if verdict.is_some() {
+            self.report.coverage.refused += 1;
+            if options.queries && random.chance(15) {
+                let case = queries::blind(random, &file);
+                let outcome = self.compare(&case)?;
+                self.report.coverage.case(&case, &outcome, verdict);
+            }
+            return Some(());
+        }
+        self.report.coverage.accepted += 1;
+        let fields = syntax::fields(&file);
+        let cards = &outcome.cards[..32_000];
+        self.report.coverage.file(file.len(), &fields, cards);
+        let model = Model::of(&fields, cards);
+        let long_way = file.len() < 2_000 && random.chance(60);
+        if long_way && !model.definitions.is_empty() {
+            for _ in 0..3 {
+                self.card_the_long_way(random, &case, &model)?;
+            }
+        }
+        if options.queries {
+            for _ in 0..3 + random.below(4) {
+                self.query(random, &file, &model, long_way)?;
+            }
+        }
+        Some(())
+    }
+
+    fn query(
+        &mut self,
+        random: &mut Random,
+        file: &[u8],
+        model: &Model,
+        long_way: bool,
+    ) -> Option<()> {
+        let query = queries::query(random, file, model);
+        let outcome = self.compare(&query.case)?;
+        let coverage = &mut self.report.coverage;
+        coverage.case(&query.case, &outcome, None);
+        let refusal = query.case.refusal(&outcome);
+        let first = matches!(refusal, Some((1, _)));
+        if let Some(label) = query.label.filter(|_| !first) {
+            let short = label == "expand, one byte short";
+            if !short || matches!(refusal, Some((18, _))) {
+                coverage.query(label);
+            }
+        }
+        if long_way && !first {
+            self.query_the_long_way(&query.case, &outcome)?;
+        }
+        Some(())
+    }
+
+    /// Compares an entry of a card with the long way's level.
+    fn card_the_long_way(&mut self, random: &mut Random, case: &Case, model: &Model) -> Option<()> {
+        let d = random.below(model.definitions.len());
+        let count = model.definitions[d].parameters;
+        let levels: Vec<u8> = (0..count).map(|_| random.below(5) as u8).collect();
+        let weights = [1, 5, 25];
+        let entry: usize = levels
+            .iter()
+            .zip(weights)
+            .map(|(&l, w)| l as usize * w)
+            .sum();
+        let found = model.card(d)[entry] as u32;
+        match reference::long_way_definition(&case.file, d as u32, &levels, FUEL) {
+            None => self.report.given_up += 1,
+            Some(Ok(level)) if level == found => self.report.long_way += 1,
+            Some(other) => {
+                let what = format!("card {d} at {levels:?} says {found}, the long way {other:?}");
+                self.astray(case, what);
+                return None;
+            }
+        }
+        Some(())
+    }
+
+    /// Compares a reply to a query with the long way's.
+    fn query_the_long_way(&mut self, case: &Case, outcome: &Outcome) -> Option<()> {
+        let refusal = case.refusal(outcome);
+        let same = match &case.call {
+            Call::Level {
+                module,
+                expr,
+                levels,
+            } => {
+                let way = reference::long_way(&case.file, *module, expr, levels, FUEL);
+                way.map(|way| match way {
+                    Ok(level) => refusal.is_none() && level as u64 == outcome.reply,
+                    Err(error) => refusal == Some((error.number, error.place)),
+                })
+            }
+            Call::Expand {
+                module,
+                expr,
+                params,
+                room,
+            } => {
+                let way = reference::long_way_expansion(&case.file, *module, expr, *params, FUEL);
+                way.map(|way| match way {
+                    Ok(bytes) if bytes.len() > 65_535.min(*room) => {
+                        matches!(refusal, Some((18, 0)))
+                    }
+                    Ok(bytes) => {
+                        outcome.reply == bytes.len() as u64 && outcome.out.starts_with(&bytes)
+                    }
+                    Err(error) => refusal == Some((error.number, error.place)),
+                })
+            }
+            _ => return Some(()),
+        };
+        match same {
+            None => self.report.given_up += 1,
+            Some(true) => self.report.long_way += 1,
+            Some(false) => {
+                let reply = case.reply(outcome);
+                self.astray(case, format!("reply {reply}, the long way another"));
+                return None;
+            }
+        }
+        Some(())
+    }
+}

@@ -1,0 +1,67 @@
+//! A run at the default seed holds every cause, construct, fault, limit and kind of query; and runs
+//! follow from their seeds.
+
+use differential::checker::Reference;
+use differential::runner::{generate, run, Options};
+
+#[test]
+fn counts_are_complete_at_the_default_seed() {
+    let report = run(&Reference, &Reference, Options::default());
+    if let Some(difference) = report.difference {
+        panic!("{difference}");
+    }
+    let missing = report.coverage.missing(true);
+    assert!(missing.is_empty(), "missing:\n{}", missing.join("\n"));
+    assert!(report.long_way > 1_000, "{report}");
+}
+
+#[test]
+fn few_files_are_not_enough() {
+    let options = Options {
+        files: 20,
+        ..Options::default()
+    };
+    let report = run(&Reference, &Reference, options);
+    assert!(!report.coverage.missing(true).is_empty());
+}
+
+#[test]
+fn runs_follow_from_their_seeds() {
+    let options = Options {
+        files: 150,
+        seed: 7,
+        queries: true,
+        families: false,
+    };
+    let first = run(&Reference, &Reference, options);
+    let second = run(&Reference, &Reference, options);
+    assert_eq!(first.coverage, second.coverage);
+    assert_eq!(first.cases, second.cases);
+    assert_eq!(first.bytes, second.bytes);
+    let files = |seed: u64| (0..60).map(move |number| generate(seed, number));
+    assert!(files(3).eq(files(3)));
+    assert!(!files(3).eq(files(4)));
+}
+
+#[test]
+fn families_are_as_they_are_meant() {
+    use differential::cases::Case;
+    use differential::families;
+    for family in [families::usual(), families::checks()].iter().flatten() {
+        let case = Case::new(&family.file, family.call.clone());
+        let refusal = case.refusal(&case.run(&Reference));
+        let expected = family.label.starts_with('h').then_some(16);
+        assert_eq!(
+            refusal.map(|(cause, _)| cause),
+            expected,
+            "{}",
+            family.label
+        );
+    }
+    for family in families::queries(false) {
+        let case = Case::new(&family.file, family.call.clone());
+        let refusal = case.refusal(&case.run(&Reference));
+        let lawful = matches!(refusal, None | Some((5 | 18, _)));
+        assert!(lawful, "{}: {refusal:?}", family.label);
+    }
+}
