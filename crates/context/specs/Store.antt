@@ -36,10 +36,10 @@ fieldCode field = maxDefinitions + field
 -- names holds the name of each code. facts holds six columns a code:
 --               kind                     first               count              via                source                 link
 -- definition    parameter count          body's start        body's length      instance name or 0 number it came from    field that brought it + 1, or 0
--- CONSTANT      argument count           0                   0                  0                  0                      0
--- VARIABLE      variableKind             0                   0                  0                  0                      0
+-- CONSTANT      argument count           its number          0                  0                  0                      0
+-- VARIABLE      variableKind             its number          0                  0                  0                      0
 -- INSTANCE      instanceKind + params    first brought       how many           module's number    first substitution at  substitutions
--- An own definition comes from its own number.
+-- An own definition comes from its own number. Declarations are numbered from 0 through the whole file.
 abbrev pub kindAt : List ℕ → ℕ → ℕ
 kindAt facts o = getD facts (columnCount * o) 0
 

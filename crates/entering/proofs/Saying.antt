@@ -1,0 +1,157 @@
+-- Where the tables show a world, a text read by them has the level that its term has in the world.
+use mathlib.Core.Path.{_≡_, refl, sym, ap, ap₂, subst, _∙_}
+use mathlib.Core.Bool.{Bool, true, false, cond}
+use mathlib.Core.List.{List, [], _∷_, _++_}
+use Prim.Native.Nat.{ℕ, zero, suc, _+_, _-_, _≤_, _<_, min}
+use native.Mathlib.Nat.{add-suc, zero-add}
+use native.Mathlib.Omega.{arith}
+use lib.Dec.{ltb}
+use lib.ListN.{drop, getD, length, take}
+use lib.Seq.{getD-drop, length-take-le}
+use Rattle.limits.specs.Limits.{maxDefinitions, maxNesting}
+use Rattle.theory.specs.Level.{bindsIn, incorrect, plain}
+use Rattle.theory.specs.Lists.{All, numbersFrom}
+use Rattle.theory.specs.Tree.{_▹_, count, mapTrees, node, ⟨⟩}
+use Rattle.theory.specs.Term.{Arities, Every, Everys, Fits, Head, Kind, Term, Terms, binder, declared, defined, eval, evals, kindArity, longWay}
+use Rattle.theory.specs.Expand.{itself, paramsFrom}
+use Rattle.theory.proofs.ExpandFirst.{Keeps}
+use Rattle.theory.proofs.Levels.{IsLevel}
+use Rattle.theory.proofs.Lists.{append-all}
+use Rattle.tokens.specs.Expr.{Expr, Exprs, Placed, exprAt, found}
+use Rattle.tokens.specs.Limit.{countsKept}
+use Rattle.tokens.specs.declared.Token.{Token}
+use Rattle.tokens.specs.declared.Token.the-variants.{Parameter, Bound, Name, InstanceOperator, BuiltIn, Literal, NoToken}
+use Rattle.texts.specs.Text.{Declarations, firsts, named, noDeclaration, refHead, shown, tokenHead}
+use Rattle.texts.proofs.Levels.{AllSay, AllsSay, Says, TokenSays, headMeaning, level-shown}
+use Rattle.forms.specs.declared.Form.{Form}
+use Rattle.forms.specs.Forms.{Gives, levelAt, width}
+use Rattle.levels.specs.Tables.{sceneOf}
+use Rattle.levels.specs.Walk.{TextForm}
+use Rattle.worlds.specs.World.{World, evalAt, numberIn, paramsIn, readDefined}
+use Rattle.worlds.specs.Tables.{Table, byTables, declaredBy}
+use Rattle.entering.specs.Own.{paramLevels}
+use Rattle.entering.specs.Implied.{impliedLevel}
+use Rattle.entering.specs.Shows.{OneOf, Resolved, Shows, TextNames, TextsName, TokenNames}
+
+-- levels that are there, as they are read
+own-level : (v : List ℕ) (i : ℕ) → All IsLevel v → i < length v → min incorrect (getD v i 0) ≡ getD v i incorrect
+own-level [] i a l = absurd (omega arith)
+own-level (x ∷ v) zero a l = omega (arith, a .0)
+own-level (x ∷ v) (suc i) a l = own-level v i (a .1) (omega arith)
+
+pub take-levels : (n : ℕ) (v : List ℕ) → All IsLevel v → All IsLevel (take n v)
+take-levels zero v a = tt
+take-levels (suc n) [] a = tt
+take-levels (suc n) (x ∷ v) a = (a .0, take-levels n v (a .1))
+
+firsts-from : (v : List ℕ) → All IsLevel v → (j P : ℕ) (u : List ℕ) → All IsLevel u → P ≤ length u → ((i : ℕ) → getD v (j + i) 0 ≡ getD u i 0)
+    → paramLevels j P v ≡ take P u
+firsts-from v b j zero u a l e = refl
+firsts-from v b j (suc P) [] a l e = absurd (omega arith)
+firsts-from v b j (suc P) (x ∷ u) a l e =
+    let z : j + 0 ≡ j = omega arith in
+    let here : getD v j 0 ≡ x = ap (λ (i : ℕ). getD v i 0) (sym z) ∙ e 0 in
+    let low : min incorrect x ≡ x = omega (arith, a .0) in
+    ap₂ _∷_ (ap (min incorrect) here ∙ low)
+    (firsts-from v b (suc j) P u (a .1) (omega arith) (λ i. let q : suc j + i ≡ j + suc i = omega arith in ap (λ (k : ℕ). getD v k 0) q ∙ e (suc i)))
+
+pub firsts-take : (P : ℕ) (v : List ℕ) → All IsLevel v → P ≤ length v → firsts P v ≡ take P v
+firsts-take P v a l = firsts-from v a 0 P v a l (λ i. ap (λ (k : ℕ). getD v k 0) (zero-add i))
+
+low-params : (v : List ℕ) (i m : ℕ) → All IsLevel (paramLevels i m v)
+low-params v i zero = tt
+low-params v i (suc m) = (omega arith, low-params v (suc i) m)
+
+length-levels : (v : List ℕ) (i m : ℕ) → length (paramLevels i m v) ≡ m
+length-levels v i zero = refl
+length-levels v i (suc m) = ap suc (length-levels v (suc i) m)
+
+module _ (G : ℕ → List ℕ → ℕ) (decls : Declarations) (N F : ℕ → Type 0) (w : World) (Ss : List (Table ℕ)) (numbers words : List ℕ)
+    (shows : Shows G decls N F w Ss numbers words) (v : List ℕ) (lows : All IsLevel v) (n : ℕ) (size : length v ≡ paramsIn w + n) where
+  abbrev pre : List ℕ
+  pre = take (paramsIn w) v
+
+  abbrev D : Kind → ℕ → List ℕ → ℕ
+  D = declaredBy longWay Ss pre
+
+  abbrev H : ℕ → List ℕ → ℕ
+  H = readDefined G w pre
+
+  pre-length : length pre ≡ paramsIn w
+  pre-length = length-take-le (paramsIn w) v (omega arith)
+
+  -- the scene says of a name what the world says
+  says : (ar : Arities) (r m k : ℕ) → Resolved N F r → Fits ar n k (refHead decls r) m → (us : List ℕ) → length us ≡ m → All IsLevel us
+      → named (sceneOf numbers words) r (pre ++ us) ≡ headMeaning D H (refHead decls r) us
+  says ar r m k = go (ltb r maxDefinitions)
+    where
+      go : (b : Bool) → OneOf b N F r
+          → Fits ar n k (cond b (defined r) (declared (getD decls (r - maxDefinitions) noDeclaration .0) (getD decls (r - maxDefinitions) noDeclaration .1))) m
+          → (us : List ℕ) → length us ≡ m → All IsLevel us
+          → cond b (sceneOf numbers words .definitions r (pre ++ us)) (sceneOf numbers words .declarations (r - maxDefinitions) (pre ++ us))
+          ≡ headMeaning D H (cond b (defined r) (declared (getD decls (r - maxDefinitions) noDeclaration .0) (getD decls (r - maxDefinitions) noDeclaration .1))) us
+      go true h f us l a = shows .defined r h (pre ++ us) (append-all IsLevel pre us (take-levels (paramsIn w) v lows) a)
+      go false h f us l a = shows .declared (r - maxDefinitions) h pre us pre-length (l ∙ f) (take-levels (paramsIn w) v lows) a
+
+  module _ (refs : List ℕ) (keeps : Keeps (byTables longWay G w Ss pre) IsLevel) (ar : Arities) where
+    abbrev headOf : Placed → Head
+    headOf h = tokenHead refs decls (h .at) (h .token)
+
+    count-map : (ts : Exprs) → count (mapTrees headOf ts) ≡ count ts
+    count-map ⟨⟩ = refl
+    count-map (t ▹ ts) = ap suc (count-map ts)
+
+    token-says : (t : Token) (at k : ℕ) (ts : Exprs) → TokenNames N F refs at t → Fits ar n k (tokenHead refs decls at t) (count (mapTrees headOf ts))
+        → TokenSays refs decls (sceneOf numbers words) (paramsIn w) n v size lows D H keeps ar at t (count ts)
+    token-says (Parameter i) at k ts h f = tt
+    token-says (Bound j) at k ts h f = tt
+    token-says (Name x m) at k ts h f = λ us l a. says ar (getD refs at 0) (count (mapTrees headOf ts)) k h f us (l ∙ sym (count-map ts)) a
+    token-says (InstanceOperator i x m) at k ts h f = λ us l a. says ar (getD refs at 0) (count (mapTrees headOf ts)) k h f us (l ∙ sym (count-map ts)) a
+    token-says (BuiltIn c) at k ts h f = tt
+    token-says (Literal x) at k ts h f = tt
+    token-says NoToken at k ts h f = absurd h
+
+    mutual
+      all-say : (t : Expr) (k : ℕ) → TextNames N F refs t → Every (Fits ar n) k (shown refs decls t)
+          → AllSay refs decls (sceneOf numbers words) (paramsIn w) n v size lows D H keeps ar t
+      all-say (node h ts) k m f =
+          (token-says (h .token) (h .at) k ts (m .0) (f .0), alls-say ts k (bindsIn (binder (headOf h))) (m .1) (f .1))
+
+      alls-say : (ts : Exprs) (k : ℕ) (s : ℕ → ℕ) → TextsName N F refs ts → Everys (Fits ar n) k s (mapTrees headOf ts)
+          → AllsSay refs decls (sceneOf numbers words) (paramsIn w) n v size lows D H keeps ar ts
+      alls-say ⟨⟩ k s m f = tt
+      alls-say (t ▹ ts) k s m f = (all-say t (s 0 + k) (m .0) (f .0), alls-say ts k (λ i. s (suc i)) (m .1) (f .1))
+
+    -- A substitute that is written: its form gives the level of its term in the world of the instance's own field.
+    pub written-level : (s : List ℕ) (at e : ℕ) (t : Expr) (f : Form) (u : Term) → length v ≤ width → TextForm refs numbers words s (paramsIn w) at f
+        → exprAt maxNesting s at ≡ found t e → countsKept t ≡ true → TextNames N F refs t → Every (Fits ar n) 0 (shown refs decls t)
+        → shown refs decls t ≡ u → levelAt f v ≡ evalAt (byTables longWay G w Ss) (paramsIn w) u v
+    written-level s at e t f u short form q c m ok z =
+        form .level t e q c v short
+        ∙ level-shown refs decls (sceneOf numbers words) (paramsIn w) n v size lows D H keeps ar t 0 [] tt (λ (j : ℕ) (l : j < 0). absurd (omega arith)) (all-say t 0 m ok) ok
+        ∙ ap (λ (x : Term). evalAt (byTables longWay G w Ss) (paramsIn w) x v) z
+
+  -- parameters in a row mean their levels
+  values-row : (i m : ℕ) → i + m ≤ n → (x : ℕ) (s : ℕ → ℕ) (β : List ℕ) → evals (byTables longWay G w Ss pre) (drop (paramsIn w) v) β x s (paramsFrom i m) ≡ paramLevels (paramsIn w + i) m v
+  values-row i zero h x s β = refl
+  values-row i (suc m) h x s β =
+      ap₂ _∷_ (getD-drop (paramsIn w) v i incorrect ∙ sym (own-level v (paramsIn w + i) lows (omega arith)))
+      (values-row (suc i) m (omega arith) x (λ j. s (suc j)) β ∙ ap (λ (j : ℕ). paramLevels j m v) (add-suc (paramsIn w) i))
+
+  -- A substitute that is implied.
+  pub implied-level : (ar : Arities) (r p : ℕ) (k : Kind) (f : Form) → Gives f (impliedLevel numbers words r (paramsIn w) p (kindArity k)) → n ≡ p + kindArity k
+      → Resolved N F r → Fits ar n 0 (refHead decls r) (kindArity k)
+      → levelAt f v ≡ evalAt (byTables longWay G w Ss) (paramsIn w) (itself p k (refHead decls r)) v
+  unfolding impliedLevel
+  implied-level ar r p k f g e h ok =
+      let us : List ℕ = paramLevels (paramsIn w + p) (kindArity k) v in
+      g .at v ∙ ap (λ (l : List ℕ). named (sceneOf numbers words) r (l ++ us)) (firsts-take (paramsIn w) v lows (omega arith))
+      ∙ says ar r (kindArity k) 0 h ok us (length-levels v (paramsIn w + p) (kindArity k)) (low-params v (paramsIn w + p) (kindArity k))
+      ∙ ap (headMeaning D H (refHead decls r)) (sym (values-row p (kindArity k) (omega arith) incorrect (bindsIn plain) []))
+      ∙ by-ref (ltb r maxDefinitions) (paramsFrom p (kindArity k))
+    where
+      by-ref : (b : Bool) (ts : Terms)
+          → headMeaning D H (cond b (defined r) (declared (getD decls (r - maxDefinitions) noDeclaration .0) (getD decls (r - maxDefinitions) noDeclaration .1))) (evals (byTables longWay G w Ss pre) (drop (paramsIn w) v) [] incorrect (bindsIn plain) ts)
+          ≡ eval (byTables longWay G w Ss pre) (drop (paramsIn w) v) [] (node (cond b (defined r) (declared (getD decls (r - maxDefinitions) noDeclaration .0) (getD decls (r - maxDefinitions) noDeclaration .1))) ts)
+      by-ref true ts = refl
+      by-ref false ts = refl

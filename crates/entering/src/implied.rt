@@ -1,0 +1,75 @@
+// A declared name without a substitution stands for the operator of that name where the INSTANCE field stands, at its own parameters.
+use crate::own::own_params;
+use context::Operator;
+use context::lists::number_at;
+use context::lookup::find_operator;
+use context::lookup::is_declared;
+use forms::Form;
+use limits::Limits;
+ghost use mathlib.Core.Path.{_≡_};
+ghost use Prim.Native.Nat.{_+_, _≤_};
+ghost use lib.ListN.{length};
+ghost use Rattle.limits.specs.Limits.{maxArity, maxDeclarations, maxModules};
+ghost use Rattle.forms.specs.Forms.{Gives};
+ghost use Rattle.levels.specs.Tables.{tableWords};
+ghost use Rattle.entering.specs.Implied.{argumentsOf, impliedLevel, impliedRef, numberOf};
+
+// A declaration's number among the declarations; of any other code the first number that is none.
+pub fn declared_number(facts: &[u16], o: u16) -> usize
+    ensures { λ r. ⌜ (r ≡ numberOf (now (facts .entry)) o) × (r ≤ maxDeclarations) ⌝ }
+{
+    if is_declared(facts, o) {
+        let d = number_at(facts, Limits::COLUMNS * (o as usize) + 1) as usize;
+        if d < Limits::DECLARATIONS {
+            return d;
+        }
+        return Limits::DECLARATIONS;
+    }
+    Limits::DECLARATIONS
+}
+
+// The arguments that a declaration of a kind takes.
+pub fn arguments_of(kind: u16) -> usize
+    ensures { λ r. ⌜ (r ≡ argumentsOf kind) × (r ≤ maxArity) ⌝ }
+{
+    let k = kind as usize;
+    if k <= Limits::ARITY { k } else { 0 }
+}
+
+// What a name is in module `owner`, as a number that the table of names may hold.
+pub fn implied_ref(
+    names: &[u16],
+    facts: &[u16],
+    contexts: &[u16],
+    heads: &[u16],
+    owner: usize,
+    name: u16,
+) -> u16
+    requires { ⌜ owner ≤ maxModules ⌝ }
+    ensures { λ r. ⌜ r ≡ impliedRef (now (names .entry)) (now (facts .entry)) (now (contexts .entry)) (now (heads .entry)) owner name ⌝ }
+{
+    match find_operator(names, facts, contexts, heads, owner, name) {
+        Operator::Constant(o, _) => (Limits::DEFINITIONS + declared_number(facts, o)) as u16,
+        Operator::Variable(o) => (Limits::DEFINITIONS + declared_number(facts, o)) as u16,
+        Operator::Defined(g) => g,
+        Operator::Unknown => (Limits::DEFINITIONS + Limits::DECLARATIONS) as u16,
+    }
+}
+
+// The form of what r stands for at the instances' parameters around the field, `outer` of them, and then at k parameters that come after
+// those and after the field's own.
+pub fn implied_form(
+    numbers: &[u16],
+    words: &[u64],
+    r: u16,
+    outer: usize,
+    params: usize,
+    k: usize,
+) -> Form
+    requires { ⌜ (length (now words) ≡ tableWords) × (outer + params ≤ maxArity) × (k ≤ maxArity) ⌝ }
+    ensures { λ x. ⌜ Gives x (impliedLevel (now (numbers .entry)) (now (words .entry)) r outer params k) ⌝ }
+{
+    let fs = own_params(outer + params, k);
+    let one = [r];
+    levels::names::name_form(&one, numbers, words, 0, outer, fs)
+}

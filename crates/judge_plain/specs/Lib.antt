@@ -1,0 +1,3 @@
+pub mod Causes
+pub mod Judges
+pub mod Extending
