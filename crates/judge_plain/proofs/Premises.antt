@@ -50,7 +50,7 @@ pub good-listed : (v : Store) (c : Counts) (s : State) → Holds v c s → Good 
 good-listed v c s holds good q h =
     let l : q < length (s .ended) = subst (λ (n : ℕ). q < n) (holds .modules) h in
     let known : ModuleKnown (length (s .definitions)) (moduleNo s q) =
-        subst (ModuleKnown (length (s .definitions))) (sym (List·getD-append (s .ended) (s .current ∷ []) noModule q l)) (at-all (ModuleKnown (length (s .definitions))) (s .ended) q noModule (good .ended) l) in
+    subst (ModuleKnown (length (s .definitions))) (sym (List·getD-append (s .ended) (s .current ∷ []) noModule q l)) (at-all (ModuleKnown (length (s .definitions))) (s .ended) q noModule (good .ended) l) in
     subst (λ (n : ℕ). All (λ g. g < n) (moduleNo s q .definitions)) (sym (holds .definitions)) (known .1)
 
 -- so an EXTENDS field may be judged

@@ -13,7 +13,6 @@ use Rattle.laws.proofs.Replacing.{cards-keep, known-below}
 use Rattle.laws.proofs.SideBySide.{size}
 use Rattle.laws.proofs.Sound.{length-templates}
 use Rattle.limits.specs.Limits.{maxDefinitions}
-
 use Rattle.rules.specs.State.{State, cardLevel, levelOf, paramsOf, templatesOf}
 use Rattle.texts.proofs.Levels.{AllSay, AllsSay, TokenSays, headMeaning, level-shown}
 use Rattle.texts.specs.Noted.{isName}
