@@ -13,6 +13,7 @@ use Rattle.forms.specs.declared.Form.{Form}
 use Rattle.forms.specs.Forms.{Gives, levelAt, levelsAt, width}
 use Rattle.forms.specs.Tables.{formAt}
 use Rattle.forms.proofs.Combining.{level-pad}
+use Rattle.levels.proofs.Agree.{pad}
 use Rattle.levels.specs.Tables.{sceneOf}
 use Rattle.levels.specs.Walk.{nameMeans}
 use Rattle.levels.proofs.Arrays.{length-firsts, take-inside}
@@ -70,15 +71,6 @@ module _ (facts : List ℕ) (p q : Operator) (e : p ≡ q) where
   ref-unknown r z h = h ∙ ap (refOf facts) (sym z ∙ e)
 
 -- levels of 0 at the end do not matter
-pad : (n m : ℕ) (ls : List ℕ) → length ls ≤ n → n ≤ length ls + m → take n (ls ++ replicate m 0) ≡ ls ++ replicate (n - length ls) 0
-pad zero m [] h k = refl
-pad (suc n) zero [] h k = absurd (omega arith)
-pad (suc n) (suc m) [] h k = ap (λ (l : List ℕ). 0 ∷ l) (pad n m [] (omega arith) (omega arith)) ∙ ap (λ (j : ℕ). replicate j 0) (let e : suc (n - 0) ≡ suc n - 0 = omega arith in e)
-pad zero m (x ∷ ls) h k = absurd (omega arith)
-pad (suc n) m (x ∷ ls) h k =
-    let e : n - length ls ≡ suc n - suc (length ls) = omega arith in
-    ap (λ (l : List ℕ). x ∷ l) (pad n m ls (omega arith) (omega arith) ∙ ap (λ (j : ℕ). ls ++ replicate j 0) e)
-
 named-pad : (numbers words : List ℕ) (r : ℕ) (ls : List ℕ) (n : ℕ) → named (sceneOf numbers words) r (ls ++ replicate n 0) ≡ named (sceneOf numbers words) r ls
 named-pad numbers words r ls n =
     ap₂ (cond (ltb r maxDefinitions)) (level-pad (formAt words (getD numbers r 0)) ls n)

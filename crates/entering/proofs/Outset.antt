@@ -20,7 +20,8 @@ use Rattle.levels.specs.Tables.{sceneOf}
 use Rattle.worlds.specs.Tables.{declaredBy}
 use Rattle.entering.specs.Itself.{Themselves, itselfLevel}
 use Rattle.entering.specs.Shows.{Shows}
-use Rattle.entering.proofs.Saying.{firsts-take}
+use Rattle.levels.proofs.Named.{numbers-at}
+use Rattle.texts.proofs.Levels.{firsts-take}
 
 -- a kind as the arrays keep it
 abbrev pub kindNumber : Kind → ℕ
@@ -33,11 +34,6 @@ unfolding itselfLevel
 itself-level (constant n) x us h l a =
     rw (le-leb n maxArity h) (ap highest (firsts-take n us a (omega arith) ∙ take-all n us (omega arith)))
 itself-level variable x us h l a = refl
-
-numbers-at : (i n k : ℕ) → k < n → i + k ≡ getD (numbersFrom i n) k 0
-numbers-at i zero k h = absurd (omega arith)
-numbers-at i (suc n) zero h = omega arith
-numbers-at i (suc n) (suc k) h = let e : i + suc k ≡ suc i + k = omega arith in e ∙ numbers-at (suc i) n k (omega arith)
 
 -- The kinds of the first n declarations are given, each definition is itself, and the forms of the definitions in F are right.
 pub shows-outset : (G : ℕ → List ℕ → ℕ) (decls : Declarations) (F : ℕ → Type 0) (kinds before words numbers : List ℕ) (n : ℕ) → Themselves kinds before words n

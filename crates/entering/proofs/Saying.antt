@@ -22,7 +22,7 @@ use Rattle.tokens.specs.Limit.{countsKept}
 use Rattle.tokens.specs.declared.Token.{Token}
 use Rattle.tokens.specs.declared.Token.the-variants.{Parameter, Bound, Name, InstanceOperator, BuiltIn, Literal, NoToken}
 use Rattle.texts.specs.Text.{Declarations, firsts, named, noDeclaration, refHead, shown, tokenHead}
-use Rattle.texts.proofs.Levels.{AllSay, AllsSay, Says, TokenSays, headMeaning, level-shown}
+use Rattle.texts.proofs.Levels.{AllSay, AllsSay, Says, TokenSays, firsts-take, headMeaning, level-shown, own-level}
 use Rattle.forms.specs.declared.Form.{Form}
 use Rattle.forms.specs.Forms.{Gives, levelAt, width}
 use Rattle.levels.specs.Tables.{sceneOf}
@@ -33,30 +33,10 @@ use Rattle.entering.specs.Own.{paramLevels}
 use Rattle.entering.specs.Implied.{impliedLevel}
 use Rattle.entering.specs.Shows.{OneOf, Resolved, Shows, TextNames, TextsName, TokenNames}
 
--- levels that are there, as they are read
-own-level : (v : List ℕ) (i : ℕ) → All IsLevel v → i < length v → min incorrect (getD v i 0) ≡ getD v i incorrect
-own-level [] i a l = absurd (omega arith)
-own-level (x ∷ v) zero a l = omega (arith, a .0)
-own-level (x ∷ v) (suc i) a l = own-level v i (a .1) (omega arith)
-
 pub take-levels : (n : ℕ) (v : List ℕ) → All IsLevel v → All IsLevel (take n v)
 take-levels zero v a = tt
 take-levels (suc n) [] a = tt
 take-levels (suc n) (x ∷ v) a = (a .0, take-levels n v (a .1))
-
-firsts-from : (v : List ℕ) → All IsLevel v → (j P : ℕ) (u : List ℕ) → All IsLevel u → P ≤ length u → ((i : ℕ) → getD v (j + i) 0 ≡ getD u i 0)
-    → paramLevels j P v ≡ take P u
-firsts-from v b j zero u a l e = refl
-firsts-from v b j (suc P) [] a l e = absurd (omega arith)
-firsts-from v b j (suc P) (x ∷ u) a l e =
-    let z : j + 0 ≡ j = omega arith in
-    let here : getD v j 0 ≡ x = ap (λ (i : ℕ). getD v i 0) (sym z) ∙ e 0 in
-    let low : min incorrect x ≡ x = omega (arith, a .0) in
-    ap₂ _∷_ (ap (min incorrect) here ∙ low)
-    (firsts-from v b (suc j) P u (a .1) (omega arith) (λ i. let q : suc j + i ≡ j + suc i = omega arith in ap (λ (k : ℕ). getD v k 0) q ∙ e (suc i)))
-
-pub firsts-take : (P : ℕ) (v : List ℕ) → All IsLevel v → P ≤ length v → firsts P v ≡ take P v
-firsts-take P v a l = firsts-from v a 0 P v a l (λ i. ap (λ (k : ℕ). getD v k 0) (zero-add i))
 
 low-params : (v : List ℕ) (i m : ℕ) → All IsLevel (paramLevels i m v)
 low-params v i zero = tt

@@ -37,7 +37,7 @@ use Rattle.levels.proofs.Counted.{Counted, CountedAt, Counteds, counted
 abbrev six : List ℕ → List ℕ
 six ls = take width (ls ++ replicate width 0)
 
-pad : (n m : ℕ) (ls : List ℕ) → length ls ≤ n → n ≤ length ls + m → take n (ls ++ replicate m 0) ≡ ls ++ replicate (n - length ls) 0
+pub pad : (n m : ℕ) (ls : List ℕ) → length ls ≤ n → n ≤ length ls + m → take n (ls ++ replicate m 0) ≡ ls ++ replicate (n - length ls) 0
 pad zero m [] h k = refl
 pad (suc n) zero [] h k = absurd (omega arith)
 pad (suc n) (suc m) [] h k = ap (λ (l : List ℕ). 0 ∷ l) (pad n m [] (omega arith) (omega arith)) ∙ ap (λ (j : ℕ). replicate j 0) (let e : suc (n - 0) ≡ suc n - 0 = omega arith in e)

@@ -71,7 +71,7 @@ numbers-length : (i n : ℕ) → length (numbersFrom i n) ≡ n
 numbers-length i zero = refl
 numbers-length i (suc n) = ap suc (numbers-length (suc i) n)
 
-numbers-at : (i n k : ℕ) → k < n → i + k ≡ getD (numbersFrom i n) k 0
+pub numbers-at : (i n k : ℕ) → k < n → i + k ≡ getD (numbersFrom i n) k 0
 numbers-at i zero k h = absurd (omega arith)
 numbers-at i (suc n) zero h = omega arith
 numbers-at i (suc n) (suc k) h = let e : i + suc k ≡ suc i + k = omega arith in e ∙ numbers-at (suc i) n k (omega arith)
