@@ -96,21 +96,26 @@ impl Case {
         let mut cards = self.lent_cards();
         let mut out = self.lent_output();
         let file = &self.file[..];
+        let queries = || {
+            checker
+                .queries()
+                .expect("queries go to a checker that answers them")
+        };
         let reply = match &self.call {
             Call::Check => checker.check(file, &mut cards) as u64,
             Call::Level {
                 module,
                 expr,
                 levels,
-            } => checker.level(file, &mut cards, *module, expr, levels) as u64,
+            } => queries().level(file, &mut cards, *module, expr, levels) as u64,
             Call::Expand {
                 module,
                 expr,
                 params,
                 ..
-            } => checker.expand(file, &mut cards, *module, expr, *params, &mut out) as u64,
-            Call::Alike { a, b } => checker.alike(file, &mut cards, *a, *b) as u64,
-            Call::Body { d } => checker.body(file, &mut cards, *d),
+            } => queries().expand(file, &mut cards, *module, expr, *params, &mut out) as u64,
+            Call::Alike { a, b } => queries().alike(file, &mut cards, *a, *b) as u64,
+            Call::Body { d } => queries().body(file, &mut cards, *d),
         };
         Outcome { reply, cards, out }
     }

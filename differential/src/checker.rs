@@ -5,6 +5,14 @@
 pub trait Checker {
     fn name(&self) -> String;
     fn check(&self, file: &[u8], cards: &mut [u8]) -> u32;
+    /// The queries, if this checker answers them.
+    fn queries(&self) -> Option<&dyn Queries> {
+        None
+    }
+}
+
+/// The operations beside the check.
+pub trait Queries {
     fn level(&self, file: &[u8], cards: &mut [u8], module: u16, expr: &[u8], levels: &[u8]) -> u32;
     fn expand(
         &self,
@@ -53,6 +61,12 @@ impl Checker for Reference {
         reference::packed_check(file, cards)
     }
 
+    fn queries(&self) -> Option<&dyn Queries> {
+        Some(self)
+    }
+}
+
+impl Queries for Reference {
     fn level(&self, file: &[u8], cards: &mut [u8], module: u16, expr: &[u8], levels: &[u8]) -> u32 {
         reference::packed_level(file, cards, module, expr, levels)
     }

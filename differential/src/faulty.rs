@@ -1,6 +1,6 @@
 //! The reference with a fault put in, to try the comparison out.
 
-use crate::checker::{body_refusal, refusal, refused, Checker, Reference, BODY_REFUSED};
+use crate::checker::{body_refusal, refusal, refused, Checker, Queries, Reference, BODY_REFUSED};
 
 /// A fault that a checker could have.
 #[derive(Clone, Copy, Debug, PartialEq, Eq)]
@@ -290,6 +290,12 @@ impl Checker for Faulty {
         self.spoil(file, &before, cards).unwrap_or(reply)
     }
 
+    fn queries(&self) -> Option<&dyn Queries> {
+        Some(self)
+    }
+}
+
+impl Queries for Faulty {
     fn level(&self, file: &[u8], cards: &mut [u8], module: u16, expr: &[u8], levels: &[u8]) -> u32 {
         let before = cards.to_vec();
         let file = &self.seen(file)[..];

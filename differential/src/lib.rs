@@ -1,7 +1,7 @@
 //! A deterministic generator of files and queries for level checkers, and the comparison of two
 //! checkers on them: reply, place, and every byte of lent memory.
 
-#![deny(unsafe_code)]
+#![forbid(unsafe_code)]
 
 pub mod accepted;
 pub mod cases;
@@ -14,7 +14,6 @@ pub mod faulty;
 pub mod limits;
 pub mod model;
 #[cfg(feature = "proved")]
-#[allow(unsafe_code)]
 pub mod proved;
 pub mod queries;
 pub mod random;

@@ -1,15 +1,17 @@
--- From the contract of `enter_substitutes` to the table of substitutes of the new world.
+-- From the contracts of `substitutes`, `replacing` and `numbering` to what holds one instance further in.
 use mathlib.Core.Path.{_≡_, refl, sym, ap, subst, _∙_}
 use mathlib.Core.Bool.{true}
 use mathlib.Core.List.{List, [], _∷_, _++_}
-use Prim.Native.Nat.{ℕ, zero, suc, _+_, _≤_, _<_}
+use mathlib.Core.Option.{Option, some}
+use Prim.Native.Nat.{ℕ, _+_, _≤_, _<_}
 use native.Mathlib.Omega.{arith}
-use lib.ListN.{getD, length, take}
-use Rattle.limits.specs.Limits.{maxDeclarations, maxDefinitions, maxNesting}
-use Rattle.theory.specs.Lists.{All}
-use Rattle.theory.specs.Term.{Arities, Every, Fits, Kind, Term, kindArity, longWay}
+use borrow.Author.Tests.{eq-eqb, le-leb}
+use lib.ListN.{drop, getD, length, length-append, take}
+use Rattle.limits.specs.Limits.{maxArity, maxDeclarations, maxDefinitions, maxNesting}
+use Rattle.theory.specs.Lists.{All, bindOption}
+use Rattle.theory.specs.Term.{Arities, Every, Fits, Kind, Term, constant, kindArity, longWay, variable}
 use Rattle.theory.specs.Expand.{itself}
-use Rattle.theory.proofs.ExpandFirst.{Keeps}
+use Rattle.theory.proofs.ExpandFirst.{Keeps, eval-good}
 use Rattle.theory.proofs.Levels.{IsLevel, levels-kept}
 use Rattle.theory.proofs.Lists.{append-all}
 use Rattle.tokens.specs.Expr.{Expr, exprAt, found}
@@ -18,30 +20,28 @@ use Rattle.texts.specs.Text.{Declarations, noDeclaration, refHead, shown}
 use Rattle.forms.specs.declared.Form.{Form}
 use Rattle.forms.specs.Forms.{Gives, levelAt, width}
 use Rattle.forms.specs.Tables.{formAt}
-use Rattle.forms.proofs.Combining.{level-le}
 use Rattle.levels.specs.Walk.{TextForm}
 use Rattle.context.specs.Store.{kindAt}
+use Rattle.context.specs.Lookup.{declaredNamed}
 use Rattle.worlds.specs.World.{DeclaredBy, In, Link, World, brings, evalAt, numberIn, paramsIn}
 use Rattle.worlds.specs.Tables.{Right, Table, byTables, declaredBy}
+use Rattle.worlds.proofs.Reading.{all-drop}
 use Rattle.entering.specs.declared.substitutes.Site.{Site}
 use Rattle.entering.specs.declared.written.Writing.{Writing}
 use Rattle.entering.specs.declared.written.Writing.the-variants.{Written, Unwritten}
 use Rattle.entering.specs.Numbering.{Entered, ShowsNumbers}
 use Rattle.entering.specs.Replaced.{Replaced}
 use Rattle.entering.specs.Written.{writtenAt}
-use Rattle.entering.specs.Implied.{argumentsOf, impliedLevel, impliedRef, numberOf}
-use Rattle.entering.specs.Substitutes.{Apart, Around, Held, Stands, StandsBy, Substituted}
-use Rattle.entering.specs.Shows.{Resolved, Shows, TextNames, tableOf}
-use Rattle.entering.proofs.Deeper.{right-deeper, shows-deeper}
+use Rattle.entering.specs.Implied.{argumentsOf, impliedLevel, impliedRef}
+use Rattle.entering.specs.Substitutes.{Around, Stands, StandsBy, Substituted, ofKind, sameDeclared}
+use Rattle.entering.specs.Shows.{Resolved, Shows, TextNames}
 use Rattle.entering.proofs.Entering.{numbers-shown}
+use Rattle.entering.proofs.Outset.{kindNumber}
 use Rattle.entering.proofs.Saying.{implied-level, take-levels, written-level}
 
 -- tables of levels
 abbrev pub LowTable : Table ℕ → Type 0
-LowTable S = (k : Kind) (x : ℕ) (us : List ℕ) → IsLevel (S k x us)
-
-pub low-table : (numbers words : List ℕ) (number : Kind → ℕ → ℕ) → LowTable (tableOf numbers words number)
-low-table numbers words number k x us = level-le (formAt words (maxDefinitions + number k x)) us
+LowTable S = (k : Kind) (x : ℕ) (us : List ℕ) → All IsLevel us → IsLevel (S k x us)
 
 -- The reading by tables keeps levels.
 pub keeps-tables : (G : ℕ → List ℕ → ℕ) → ((g : ℕ) (us : List ℕ) → All IsLevel us → IsLevel (G g us)) → (w : World) (Ss : List (Table ℕ)) → All LowTable Ss
@@ -57,7 +57,7 @@ keeps-tables G good w Ss low pre a =
   where
     here : (Ss : List (Table ℕ)) → All LowTable Ss → (k : Kind) (x : ℕ) (vs : List ℕ) → All IsLevel vs → IsLevel (declaredBy longWay Ss pre k x vs)
     here [] l k x vs b = levels-kept .onDeclared k x vs b
-    here (S ∷ Ss) l k x vs b = l .0 k x (pre ++ vs)
+    here (S ∷ Ss) l k x vs b = l .0 k x (pre ++ vs) (append-all IsLevel pre vs a b)
 
 -- what the reader of the file knows of a substitute: the text that stands where it is written,
 pub record WrittenText (a : Around) (decls : Declarations) (N F : ℕ → Type 0) (ar : Arities) (n at : ℕ) (u : Term) : Type 0 where
@@ -80,19 +80,49 @@ Known a site decls N F ar n k o u (Written at) = WrittenText a decls N F ar n at
 Known a site decls N F ar n k o u Unwritten =
     ImpliedText decls N F ar n (site .params) k (impliedRef (a .names) (a .facts) (a .contexts) (a .heads) (site .owner) (getD (a .names) o 0)) u
 
--- the code of a declaration among the codes of the module instanced, and what is known of its substitute
-pub record CodeOf (a : Around) (site : Site) (decls : Declarations) (N F : ℕ → Type 0) (ar : Arities) (codes : List ℕ) (k : Kind) (d : ℕ) (u : Term) : Type 0 where
-  pub place : ℕ
-  pub inside : place < length codes
-  pub number : numberOf (a .facts) (getD codes place 0) ≡ d
-  pub small : d < maxDeclarations
-  pub count : argumentsOf (kindAt (a .facts) (getD codes place 0)) ≡ kindArity k
-  pub known : Known a site decls N F ar (site .params + kindArity k) k (getD codes place 0) u (writtenAt (site .count) (a .file) (site .start) (getD (a .names) (getD codes place 0) 0))
+-- the code of the declared name in the module instanced, and what is known of its substitute
+pub record CodeOf (a : Around) (site : Site) (decls : Declarations) (N F : ℕ → Type 0) (ar : Arities) (codes : List ℕ) (k : Kind) (x : ℕ) (u : Term) : Type 0 where
+  pub code : ℕ
+  pub found : declaredNamed (a .names) (a .facts) x codes ≡ some code
+  pub kind : kindAt (a .facts) code ≡ kindNumber k
+  pub named : getD (a .names) code 0 ≡ x
+  pub few : kindArity k ≤ maxArity
+  pub known : Known a site decls N F ar (site .params + kindArity k) k code u (writtenAt (site .count) (a .file) (site .start) x)
 
-at-place : (P : ℕ → Type 0) (codes : List ℕ) → All P codes → (i : ℕ) → i < length codes → P (getD codes i 0)
-at-place P [] h i l = absurd (omega arith)
-at-place P (c ∷ codes) h zero l = h .0
-at-place P (c ∷ codes) h (suc i) l = at-place P codes (h .1) i (omega arith)
+-- the declarations of the file that the module instanced declares, by number
+abbrev pub OwnTo : Declarations → Link → ℕ → Type 0
+OwnTo decls l d = (d < length decls) × DeclaredBy l (getD decls d noDeclaration .0) (getD decls d noDeclaration .1)
+
+-- the definitions of the module instanced
+abbrev pub NamedIn : Link → ℕ → Type 0
+NamedIn l h = (h < maxDefinitions) × In h (l .names)
+
+-- what holds one instance further in
+pub record Further (G : ℕ → List ℕ → ℕ) (decls : Declarations) (l : Link) (w : World) (Ss : List (Table ℕ)) (numbers′ words′ : List ℕ) : Type 0 where
+  pub table : Table ℕ
+  pub low : LowTable table
+  pub right : Right longWay IsLevel G (l ∷ w) (table ∷ Ss)
+  pub numbered : ShowsNumbers (NamedIn l) numbers′ (l ∷ w)
+  pub shows : Shows G decls (OwnTo decls l) (NamedIn l) (l ∷ w) (table ∷ Ss) numbers′ words′
+
+-- the code of declaration d has its name and its kind
+pub record CodeShows (a : Around) (declared : List ℕ) (decls : Declarations) (d : ℕ) : Type 0 where
+  pub named : getD (a .names) (getD declared d 0) 0 ≡ getD decls d noDeclaration .1
+  pub kind : kindAt (a .facts) (getD declared d 0) ≡ kindNumber (getD decls d noDeclaration .0)
+
+count-kind : (k : Kind) → kindArity k ≤ maxArity → argumentsOf (kindNumber k) ≡ kindArity k
+unfolding argumentsOf
+count-kind (constant n) h = rw (le-leb n maxArity h) refl
+count-kind variable h = refl
+
+-- a code that has the name and the kind is found by them
+same-there : (names facts codes : List ℕ) (e x n o : ℕ) → getD names e 0 ≡ x → kindAt facts e ≡ n → declaredNamed names facts x codes ≡ some o → kindAt facts o ≡ n
+    → sameDeclared names facts codes e ≡ some o
+unfolding sameDeclared ofKind
+same-there names facts codes e x n o en ek f eo =
+    let z : kindAt facts o ≡ kindAt facts e = eo ∙ sym ek in
+    ap (λ (y : ℕ). bindOption (declaredNamed names facts y codes) (ofKind facts e)) en ∙ ap (λ (y : Option ℕ). bindOption y (ofKind facts e)) f
+    ∙ rw (eq-eqb (kindAt facts o) (kindAt facts e) z) refl
 
 module _ (G : ℕ → List ℕ → ℕ) (good : (g : ℕ) (us : List ℕ) → All IsLevel us → IsLevel (G g us)) (decls : Declarations) (N F : ℕ → Type 0) (w : World)
     (Ss : List (Table ℕ)) (low : All LowTable Ss) (a : Around) (site : Site) (around-field : site .outer ≡ paramsIn w)
@@ -112,38 +142,67 @@ module _ (G : ℕ → List ℕ → ℕ) (good : (g : ℕ) (us : List ℕ) → Al
       refl (kn .resolved) (kn .fits)
       ∙ ap (λ (t : Term). evalAt (byTables longWay G w Ss) (paramsIn w) t v) (kn .same)
 
+  -- What the substitutes mean in the world of the field, by its tables.
+  abbrev pub meanings : Link → Table ℕ
+  meanings l k x us = evalAt (byTables longWay G w Ss) (paramsIn w) (l .substitutes k x) us
+
+  low-meanings : (l : Link) → LowTable (meanings l)
+  low-meanings l k x us b =
+      eval-good (byTables longWay G w Ss (take (paramsIn w) us)) IsLevel
+      (keeps-tables G good w Ss low (take (paramsIn w) us) (take-levels (paramsIn w) us b))
+      (drop (paramsIn w) us) (all-drop IsLevel (paramsIn w) us b) (l .substitutes k x) [] tt
+
   -- The new form of each declaration of the module instanced gives the level of its substitute in the world of the field.
-  pub substitutes-right : (l : Link) (codes before next : List ℕ) (number : Kind → ℕ → ℕ) → site .params ≡ l .params → Substituted a site codes before next
-      → Apart (a .facts) codes → ((k : Kind) (x : ℕ) → DeclaredBy l k x → CodeOf a site decls N F ar codes k (number k x) (l .substitutes k x))
-      → ((k : Kind) (x : ℕ) → DeclaredBy l k x → paramsIn (l ∷ w) + kindArity k ≤ width)
-      → (k : Kind) (x : ℕ) → DeclaredBy l k x → (us : List ℕ) → length us ≡ paramsIn (l ∷ w) + kindArity k → All IsLevel us
-      → levelAt (formAt next (number k x)) us ≡ evalAt (byTables longWay G w Ss) (paramsIn w) (l .substitutes k x) us
-  substitutes-right l codes before next number ep sub apart code room k x d us size lows =
-      let c = code k x d in
-      let o : ℕ = getD codes (c .place) 0 in
-      let few : numberOf (a .facts) o < maxDeclarations = subst (λ (m : ℕ). m < maxDeclarations) (sym (c .number)) (c .small) in
-      let st : Stands a site o (formAt next (numberOf (a .facts) o)) = at-place (Held a site next) codes (sub .each apart) (c .place) (c .inside) few in
+  pub substitutes-right : (l : Link) (codes declared before next : List ℕ) (n : ℕ) → site .params ≡ l .params
+      → Substituted a site codes declared n before next
+      → ((k : Kind) (x : ℕ) → DeclaredBy l k x → CodeOf a site decls N F ar codes k x (l .substitutes k x)) → paramsIn (l ∷ w) ≤ maxArity
+      → (d : ℕ) → d < n → CodeShows a declared decls d → DeclaredBy l (getD decls d noDeclaration .0) (getD decls d noDeclaration .1)
+      → (us : List ℕ) → length us ≡ paramsIn (l ∷ w) + kindArity (getD decls d noDeclaration .0) → All IsLevel us
+      → levelAt (formAt next d) us ≡ meanings l (getD decls d noDeclaration .0) (getD decls d noDeclaration .1) us
+  substitutes-right l codes declared before next n ep sub code room d h shown own us size lows =
+      let k : Kind = getD decls d noDeclaration .0 in
+      let x : ℕ = getD decls d noDeclaration .1 in
+      let c : CodeOf a site decls N F ar codes k x (l .substitutes k x) = code k x own in
+      let there : sameDeclared (a .names) (a .facts) codes (getD declared d 0) ≡ some (c .code)
+      = same-there (a .names) (a .facts) codes (getD declared d 0) x (kindNumber k) (c .code) (shown .named) (shown .kind) (c .found) (c .kind) in
+      let st : Stands a site (c .code) (formAt next d) = sub .each d h (c .code) there in
       let long : length us ≡ paramsIn w + (site .params + kindArity k) = omega (arith, ep) in
-      ap (λ (m : ℕ). levelAt (formAt next m) us) (sym (c .number))
-      ∙ stands-level k o (formAt next (numberOf (a .facts) o)) (l .substitutes k x) us long (omega (arith, room k x d)) lows (c .count)
-      (writtenAt (site .count) (a .file) (site .start) (getD (a .names) o 0)) (st .means) (c .known)
+      stands-level k (c .code) (formAt next d) (l .substitutes k x) us long (omega (arith, c .few)) lows
+      (ap argumentsOf (c .kind) ∙ count-kind k (c .few)) (writtenAt (site .count) (a .file) (site .start) x)
+      (subst (λ (y : ℕ). StandsBy a site (c .code) (writtenAt (site .count) (a .file) (site .start) y) (formAt next d)) (c .named) (st .means)) (c .known)
 
-  -- With the new forms in place, the tables of substitutes along the new world are right.
-  pub world-right : (l : Link) (codes before next numbers′ words′ : List ℕ) (number : Kind → ℕ → ℕ) → site .params ≡ l .params → Substituted a site codes before next
-      → Apart (a .facts) codes → ((k : Kind) (x : ℕ) → DeclaredBy l k x → CodeOf a site decls N F ar codes k (number k x) (l .substitutes k x))
-      → ((k : Kind) (x : ℕ) → DeclaredBy l k x → paramsIn (l ∷ w) + kindArity k ≤ width) → Replaced next (a .words) words′
-      → Right longWay IsLevel G w Ss → Right longWay IsLevel G (l ∷ w) (tableOf numbers′ words′ number ∷ Ss)
-  world-right l codes before next numbers′ words′ number ep sub apart code room new right =
-      right-deeper G decls l w Ss number next (a .words) numbers′ words′ new right (λ k x d. code k x d .small)
-      (substitutes-right l codes before next number ep sub apart code room)
-
-  -- And the new tables show the new world. K are the definitions whose forms stand in the table, M those that the old numbers show.
-  pub world-shown : (l : Link) (next before numbers′ words′ : List ℕ) (number : Kind → ℕ → ℕ) (K M : ℕ → Type 0) → Replaced next (a .words) words′
-      → ShowsNumbers M (a .numbers) w → ((h : ℕ) → In h (l .names) → M (brings l h)) → Entered (l .names) (l .first) (a .numbers) before numbers′
-      → ((h : ℕ) → In h (l .names) → K (numberIn (l ∷ w) h)) → ((g : ℕ) → K g → g < maxDefinitions)
-      → ((g : ℕ) → K g → (us : List ℕ) → All IsLevel us → levelAt (formAt (a .words) g) us ≡ G g us)
-      → Shows G decls (λ d. number (getD decls d noDeclaration .0) (getD decls d noDeclaration .1) ≡ d) (λ h. (h < length before) × In h (l .names)) (l ∷ w)
-      (tableOf numbers′ words′ number ∷ Ss) numbers′ words′
-  world-shown l next before numbers′ words′ number K M new shown brought entered known small formed =
-      shows-deeper G decls l w Ss number next (a .words) numbers′ words′ new (λ h. (h < length before) × In h (l .names)) K
-      (numbers-shown M l w (a .numbers) before numbers′ shown brought entered) (λ h m. known h (m .1)) small formed
+  -- With the new forms and numbers in place, all holds one instance further in. M are the definitions that the old numbers show.
+  pub world-entered : (l : Link) (codes declared before next old numbers′ words′ : List ℕ) (n : ℕ) (M : ℕ → Type 0) → site .params ≡ l .params
+      → length decls ≤ n → n ≤ maxDeclarations → Substituted a site codes declared n before next → ((d : ℕ) → d < length decls → CodeShows a declared decls d)
+      → ((k : Kind) (x : ℕ) → DeclaredBy l k x → CodeOf a site decls N F ar codes k x (l .substitutes k x)) → paramsIn (l ∷ w) ≤ maxArity
+      → Replaced next (a .words) words′ → ShowsNumbers M (a .numbers) w → ((h : ℕ) → In h (l .names) → M (brings l h))
+      → length old ≡ maxDefinitions → Entered (l .names) (l .first) (a .numbers) old numbers′
+      → ((h : ℕ) → NamedIn l h → numberIn (l ∷ w) h < maxDefinitions)
+      → ((h : ℕ) → NamedIn l h → (us : List ℕ) → All IsLevel us
+      → levelAt (formAt (a .words) (numberIn (l ∷ w) h)) us ≡ G (numberIn (l ∷ w) h) us)
+      → Right longWay IsLevel G w Ss → Further G decls l w Ss numbers′ words′
+  world-entered l codes declared before next old numbers′ words′ n M ep all few sub shown code room new shownNumbers brought size entered small formed right =
+      record {
+        table = meanings l;
+        low = low-meanings l;
+        right = (λ k x d us q b. refl, right);
+        numbered = numbered;
+        shows = record {
+          defined = λ g f us b.
+              ap (λ (h : ℕ). levelAt (formAt words′ h) us) (numbered .each g f)
+              ∙ ap (λ (x : Form). levelAt x us) (new .definitions (numberIn (l ∷ w) g) (small g f)) ∙ formed g f us b;
+          declared = λ d o pre us p q b c.
+              let below : d < maxDeclarations = omega (arith, o .0) in
+              let inside : d < n = omega (arith, o .0) in
+              let long : length (pre ++ us) ≡ paramsIn (l ∷ w) + kindArity (getD decls d noDeclaration .0) = omega (arith, length-append pre us) in
+              ap (λ (f : Form). levelAt f (pre ++ us)) (new .declarations d below)
+              ∙ substitutes-right l codes declared before next n ep sub code room d inside (shown d (o .0)) (o .1) (pre ++ us) long
+              (append-all IsLevel pre us b c);
+        };
+      }
+    where
+      numbered : ShowsNumbers (NamedIn l) numbers′ (l ∷ w)
+      numbered =
+          let s : ShowsNumbers (λ h. (h < length old) × In h (l .names)) numbers′ (l ∷ w)
+          = numbers-shown M l w (a .numbers) old numbers′ shownNumbers brought entered in
+          record { each = λ h m. s .each h (subst (λ (k : ℕ). h < k) (sym size) (m .0), m .1) }

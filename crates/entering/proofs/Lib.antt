@@ -7,6 +7,5 @@ pub mod Substituting
 pub mod Copying
 -- What the tables show of the world
 pub mod Saying
-pub mod Deeper
 pub mod Outset
 pub mod Joining

@@ -1,27 +1,32 @@
--- `substitutes`: what stands for one declaration, and the table turn by turn, from the last code to the first.
+-- `substitutes`: what stands for one declaration, and the table turn by turn.
 use mathlib.Core.Path.{_≡_, refl, sym, ap, subst, _∙_}
-use mathlib.Core.List.{List, [], _∷_}
-use mathlib.Core.Logic.{_≢_}
-use Prim.Native.Nat.{ℕ, zero, suc, _+_, _-_, _*_, _≤_, _<_}
+use mathlib.Core.List.{List}
+use mathlib.Core.Option.{Option, none, some}
+use Prim.Native.Nat.{ℕ, _+_, _-_, _*_, _≤_, _<_}
 use native.Mathlib.Decide.{ℕ-discrete}
 use native.Mathlib.Omega.{arith}
+use borrow.Author.Tests.{eq-eqb, ne-eqb}
 use lib.ListN.{getD, length}
 use lib.Seq.{length-paste}
-use Rattle.limits.specs.Limits.{contextLength, maxDeclarations}
-use Rattle.theory.specs.Lists.{All}
+use Rattle.limits.specs.Limits.{columnCount, contextLength, maxDeclarations}
+use Rattle.theory.specs.Lists.{bindOption}
 use Rattle.forms.specs.declared.Form.{Form}
-use Rattle.forms.specs.Forms.{Fit, Gives}
+use Rattle.forms.specs.Forms.{Gives}
 use Rattle.forms.specs.Tables.{formAt, stored, words as formWords}
 use Rattle.forms.proofs.Tables.{load-other}
 use Rattle.levels.specs.Walk.{TextForm}
 use Rattle.context.specs.Parts.{part}
 use Rattle.context.specs.Store.{contextCodes, contextSlot, kindAt}
+use Rattle.context.specs.Lookup.{asCode, declaredNamed}
+use Rattle.context.specs.declared.Code.{Code}
+use Rattle.context.specs.declared.Code.the-variants.{At, Absent}
+use Rattle.context.proofs.Answers.{declared-there}
 use Rattle.entering.specs.declared.substitutes.Site.{Site}
 use Rattle.entering.specs.declared.written.Writing.{Writing}
 use Rattle.entering.specs.declared.written.Writing.the-variants.{Written, Unwritten}
 use Rattle.entering.specs.Written.{writtenAt}
-use Rattle.entering.specs.Implied.{argumentsOf, impliedLevel, impliedRef, numberOf}
-use Rattle.entering.specs.Substitutes.{Added, Apart, Around, Held, NotOf, Same, Stands, StandsBy, Substituted, nextWords}
+use Rattle.entering.specs.Implied.{argumentsOf, impliedLevel, impliedRef}
+use Rattle.entering.specs.Substitutes.{Added, Around, Placed, Stands, StandsBy, Substituted, nextWords, ofKind, sameDeclared}
 
 module _ (a : Around) (site : Site) (o : ℕ) (f : Form) (x : ℕ) (w : Writing) (ex : x ≡ getD (a .names) o 0)
     (ew : w ≡ writtenAt (site .count) (a .file) (site .start) x) where
@@ -41,86 +46,101 @@ module _ (a : Around) (site : Site) (o : ℕ) (f : Form) (x : ℕ) (w : Writing)
             (subst (λ (j : ℕ). Gives f (impliedLevel (a .numbers) (a .words) j (site .outer) (site .params) k)) (er ∙ ap (impliedRef (a .names) (a .facts) (a .contexts) (a .heads) (site .owner)) ex) g));
       }
 
-pub added-none : (a : Around) (site : Site) (o d : ℕ) (table : List ℕ) → d ≡ numberOf (a .facts) o → maxDeclarations ≤ d → Added a site o table table
-added-none a site o d table e h =
-    record { size = refl; here = λ (l : numberOf (a .facts) o < maxDeclarations). absurd (omega arith); others = λ g n. refl }
-
-pub added-one : (a : Around) (site : Site) (o d : ℕ) (f : Form) (before after : List ℕ) → d ≡ numberOf (a .facts) o → d < maxDeclarations
-    → length before ≡ nextWords → Stands a site o f → after ≡ stored before d f → formAt after d ≡ f → Added a site o before after
+pub placed : (a : Around) (site : Site) (o d : ℕ) (f : Form) (before after : List ℕ) → d < maxDeclarations → length before ≡ nextWords → Stands a site o f
+    → after ≡ stored before d f → formAt after d ≡ f → Placed a site o d before after
 unfolding stored
-added-one a site o d f before after e h l s es ef =
+placed a site o d f before after small l s es ef =
     record {
       size = ap length es ∙ length-paste before (d * 4) (formWords f) 4 (omega arith) (omega arith);
-      here = λ z. subst (Stands a site o) (sym (ap (formAt after) (sym e) ∙ ef)) s;
-      others = λ g n. ap (λ (t : List ℕ). formAt t g) es ∙ load-other before d g f (omega arith) (λ (q : g ≡ d). n (q ∙ e));
+      here = subst (Stands a site o) (sym ef) s;
+      others = λ g n. ap (λ (t : List ℕ). formAt t g) es ∙ load-other before d g f (omega arith) n;
     }
 
-pub added-at : (a : Around) (site : Site) (contexts : List ℕ) (at o : ℕ) (before after : List ℕ) → o ≡ getD contexts at 0 → Added a site o before after
-    → Added a site (getD contexts at 0) before after
-added-at a site contexts at o before after e new = subst (λ (k : ℕ). Added a site k before after) e new
+-- the code that was found, or none
+module _ (facts : List ℕ) (e o : ℕ) (k l : ℕ) (ek : k ≡ getD facts (columnCount * o) 0) (el : l ≡ getD facts (columnCount * e) 0) where
+  pub kind-same : k ≡ l → At o ≡ asCode (ofKind facts e o)
+  unfolding ofKind asCode
+  kind-same h = let z : kindAt facts o ≡ kindAt facts e = sym ek ∙ h ∙ el in rw (eq-eqb (kindAt facts o) (kindAt facts e) z) refl
 
--- what is done when i codes are left
-pub record Substituting (a : Around) (site : Site) (contexts : List ℕ) (base n : ℕ) (before after : List ℕ) (i : ℕ) : Type 0 where
-  pub upTo : i ≤ n
-  pub done : Substituted a site (part contexts (base + i) (n - i)) before after
+  pub kind-other : (k ≡ l → ⊥) → Absent ≡ asCode (ofKind facts e o)
+  unfolding ofKind asCode
+  kind-other h =
+      let z : kindAt facts o ≡ kindAt facts e → ⊥ = λ (y : kindAt facts o ≡ kindAt facts e). h (ek ∙ y ∙ sym el) in
+      rw (ne-eqb (kindAt facts o) (kindAt facts e) z) refl
 
-pub substituting-start : (a : Around) (site : Site) (contexts : List ℕ) (base n : ℕ) (table : List ℕ) → Substituting a site contexts base n table table n
-unfolding part
-substituting-start a site contexts base n table =
-    let e : n - n ≡ 0 = omega arith in
-    record {
-      upTo = omega arith;
-      done = subst (λ (m : ℕ). Substituted a site (part contexts (base + n) m) table table) (sym e) (record { size = refl; each = λ _. tt; others = λ g n. refl });
-    }
+at-some : (x : Option ℕ) (o : ℕ) → At o ≡ asCode x → x ≡ some o
+unfolding asCode
+at-some none o h = cc
+at-some (some p) o h = cc
 
-pub substituting-length : (a : Around) (site : Site) (contexts : List ℕ) (base n : ℕ) (before after : List ℕ) (i : ℕ)
-    → Substituting a site contexts base n before after i → length after ≡ length before
-substituting-length a site contexts base n before after i inv = inv .done .size
+at-none : (x : Option ℕ) → Absent ≡ asCode x → x ≡ none
+unfolding asCode
+at-none none h = refl
+at-none (some p) h = cc
 
-module _ (a : Around) (site : Site) (o : ℕ) (before table after : List ℕ) (new : Added a site o table after) where
-  abbrev num : ℕ → ℕ
-  num c = numberOf (a .facts) c
+module _ (names facts contexts heads : List ℕ) (m e name count : ℕ) (q : Code) (en : name ≡ getD names e 0) (ec : count ≡ getD heads (contextSlot m) 0)
+    (f : q ≡ asCode (declaredNamed names facts name (part contexts (m * contextLength) (m * contextLength + count - m * contextLength)))) where
+  there-code : q ≡ asCode (declaredNamed names facts (getD names e 0) (contextCodes contexts heads m))
+  there-code =
+      declared-there names facts contexts heads m name count q ec f
+      ∙ ap (λ (x : ℕ). asCode (declaredNamed names facts x (contextCodes contexts heads m))) en
 
-  -- what stood before stays, or it is the same declaration
-  still : (codes : List ℕ) → All (Same (a .facts) o) codes → All (Held a site table) codes → All (Held a site after) codes
-  still [] p h = tt
-  still (c ∷ codes) p h = (λ l. by (ℕ-discrete (num c) (num o)) l, still codes (p .1) (h .1))
+  pub same-found : (o : ℕ) (r : Code) → q ≡ At o → r ≡ asCode (ofKind facts e o) → r ≡ asCode (sameDeclared names facts (contextCodes contexts heads m) e)
+  unfolding sameDeclared
+  same-found o r h g =
+      let z : declaredNamed names facts (getD names e 0) (contextCodes contexts heads m) ≡ some o
+      = at-some (declaredNamed names facts (getD names e 0) (contextCodes contexts heads m)) o (sym h ∙ there-code) in
+      g ∙ ap (λ (x : Option ℕ). asCode (bindOption x (ofKind facts e))) (sym z)
+
+  pub same-none : q ≡ Absent → Absent ≡ asCode (sameDeclared names facts (contextCodes contexts heads m) e)
+  unfolding sameDeclared asCode
+  same-none h =
+      let z : declaredNamed names facts (getD names e 0) (contextCodes contexts heads m) ≡ none
+      = at-none (declaredNamed names facts (getD names e 0) (contextCodes contexts heads m)) (sym h ∙ there-code) in
+      ap (λ (x : Option ℕ). asCode (bindOption x (ofKind facts e))) (sym z)
+
+module _ (a : Around) (site : Site) (codes : List ℕ) (e d : ℕ) (q : Code) (same : q ≡ asCode (sameDeclared (a .names) (a .facts) codes e)) where
+  pub added-none : (table : List ℕ) → q ≡ Absent → Added a site codes e d table table
+  added-none table h =
+      let z : sameDeclared (a .names) (a .facts) codes e ≡ none = at-none (sameDeclared (a .names) (a .facts) codes e) (sym h ∙ same) in
+      record { size = refl; here = λ o k. absurd (clash o (sym z ∙ k)); others = λ g n. refl }
     where
-      by : Dec (num c ≡ num o) → num c < maxDeclarations → Stands a site c (formAt after (num c))
-      by (yes e) l =
-          let low : num o < maxDeclarations = omega arith in
-          let z : c ≡ o = p .0 low e in
-          subst (λ (k : ℕ). Stands a site k (formAt after (num k))) (sym z) (new .here low)
-      by (no n) l = subst (Stands a site c) (sym (new .others (num c) n)) (h .0 l)
+      clash : (o : ℕ) → none ≡ some o → ⊥
+      clash o h = let z : _≡_ {A = ℕ} 0 1 = cc in absurd (omega arith)
 
-  one-more : (codes : List ℕ) → Substituted a site codes before table → Substituted a site (o ∷ codes) before after
-  one-more codes s =
+  pub added-one : (o : ℕ) (before after : List ℕ) → q ≡ At o → Placed a site o d before after → Added a site codes e d before after
+  added-one o before after h new =
+      let z : sameDeclared (a .names) (a .facts) codes e ≡ some o = at-some (sameDeclared (a .names) (a .facts) codes e) o (sym h ∙ same) in
       record {
-        size = new .size ∙ s .size;
-        each = λ p. (new .here, still codes (p .0) (s .each (p .1)));
-        others = λ g n. new .others g (n .0) ∙ s .others g (n .1);
+        size = new .size;
+        here = λ p k. subst (λ (j : ℕ). Stands a site j (formAt after d)) (one o p (sym z ∙ k)) (new .here);
+        others = new .others;
       }
+    where
+      one : (o p : ℕ) → some o ≡ some p → o ≡ p
+      one o p h = cc
 
-pub substituting-turn : (a : Around) (site : Site) (contexts : List ℕ) (base n : ℕ) (before table after : List ℕ) (i j : ℕ)
-    → Substituting a site contexts base n before table i → 0 < i → j ≡ i - 1 → Added a site (getD contexts (base + j) 0) table after
-    → Substituting a site contexts base n before after j
-unfolding part
-substituting-turn a site contexts base n before table after i j inv p ej new =
-    let z : n - j ≡ suc (n - i) = omega (arith, inv .upTo) in
-    let b : base + i ≡ suc (base + j) = omega arith in
-    let d : Substituted a site (part contexts (suc (base + j)) (n - i)) before table
-    = subst (λ (k : ℕ). Substituted a site (part contexts k (n - i)) before table) b (inv .done) in
-    record {
-      upTo = omega (arith, inv .upTo);
-      done = subst (λ (m : ℕ). Substituted a site (part contexts (base + j) m) before after) (sym z)
-          (one-more a site (getD contexts (base + j) 0) before table after new (part contexts (suc (base + j)) (n - i)) d);
-    }
+-- the first d declarations are done
+module _ (a : Around) (site : Site) (codes declared : List ℕ) where
+  pub substituted-start : (table : List ℕ) → Substituted a site codes declared 0 table table
+  substituted-start table = record { size = refl; each = λ (d : ℕ) (h : d < 0). absurd (omega arith) }
 
-pub substituting-whole : (a : Around) (site : Site) (contexts heads : List ℕ) (q base n : ℕ) (before after : List ℕ) (i : ℕ) → base ≡ q * contextLength
-    → n ≡ getD heads (contextSlot q) 0 → Substituting a site contexts base n before after i → i ≤ 0
-    → Substituted a site (contextCodes contexts heads q) before after
-substituting-whole a site contexts heads q base n before after i eb en inv h =
-    let z : n - i ≡ getD heads (contextSlot q) 0 = omega arith in
-    let b : base + i ≡ q * contextLength = omega arith in
-    subst (λ (m : ℕ). Substituted a site (part contexts (q * contextLength) m) before after) z
-    (subst (λ (k : ℕ). Substituted a site (part contexts k (n - i)) before after) b (inv .done))
+  pub substituted-turn : (before table after : List ℕ) (d e : ℕ) → Substituted a site codes declared d before table → e ≡ getD declared d 0
+      → Added a site codes e d table after → Substituted a site codes declared (d + 1) before after
+  substituted-turn before table after d e inv ee new =
+      record { size = new .size ∙ inv .size; each = λ g h o k. by g h o k (ℕ-discrete g d) }
+    where
+      by : (g : ℕ) → g < d + 1 → (o : ℕ) → sameDeclared (a .names) (a .facts) codes (getD declared g 0) ≡ some o → Dec (g ≡ d) → Stands a site o (formAt after g)
+      by g h o k (yes q) =
+          subst (λ (j : ℕ). Stands a site o (formAt after j)) (sym q)
+          (new .here o (ap (sameDeclared (a .names) (a .facts) codes) (ee ∙ ap (λ (j : ℕ). getD declared j 0) (sym q)) ∙ k))
+      by g h o k (no q) =
+          let z : g < d = omega arith in
+          subst (Stands a site o) (sym (new .others g q)) (inv .each g z o k)
+
+  pub substituted-whole : (before after : List ℕ) (d n : ℕ) → d ≤ n → n ≤ d → Substituted a site codes declared d before after
+      → Substituted a site codes declared n before after
+  substituted-whole before after d n h k inv = let e : d ≡ n = omega arith in subst (λ (m : ℕ). Substituted a site codes declared m before after) e inv
+
+  pub substituted-length : (before after : List ℕ) (d : ℕ) → Substituted a site codes declared d before after → length after ≡ length before
+  substituted-length before after d inv = inv .size

@@ -1,12 +1,12 @@
--- Each declaration stands for itself: what the table of forms holds where no instance has brought the text.
+-- A declaration stands for itself: what the table of forms holds of it where no instance has brought the text.
 use mathlib.Core.Path.{_≡_}
 use mathlib.Core.Bool.{cond}
 use mathlib.Core.List.{List}
 use mathlib.Core.Logic.{_≢_}
-use Prim.Native.Nat.{ℕ, _+_, _≤_, _<_}
+use Prim.Native.Nat.{ℕ}
 use lib.Dec.{leb}
-use lib.ListN.{getD, length}
-use Rattle.limits.specs.Limits.{maxArity, maxDefinitions}
+use lib.ListN.{length}
+use Rattle.limits.specs.Limits.{maxArity}
 use Rattle.theory.specs.Level.{highest}
 use Rattle.forms.specs.Forms.{levelAt}
 use Rattle.forms.specs.Tables.{formAt}
@@ -21,10 +21,3 @@ pub record Put (level : List ℕ → ℕ) (before after : List ℕ) (g : ℕ) : 
   pub size : length after ≡ length before
   pub here : (v : List ℕ) → levelAt (formAt after g) v ≡ level v
   pub others : (h : ℕ) → h ≢ g → formAt after h ≡ formAt before h
-
--- the first n declarations have their forms, and no other form has changed
-pub record Themselves (kinds before after : List ℕ) (n : ℕ) : Type 0 where
-  pub size : length after ≡ length before
-  pub each : (d : ℕ) → d < n → (v : List ℕ) → levelAt (formAt after (maxDefinitions + d)) v ≡ itselfLevel (getD kinds d 0) v
-  pub definitions : (g : ℕ) → g < maxDefinitions → formAt after g ≡ formAt before g
-  pub others : (g : ℕ) → maxDefinitions + n ≤ g → formAt after g ≡ formAt before g

@@ -10,7 +10,7 @@ use Rattle.limits.specs.Limits.{maxDefinitions}
 use Rattle.theory.proofs.Levels.{IsLevel}
 use Rattle.theory.specs.Lists.{All}
 use Rattle.theory.specs.Tree.{_▹_, node, ⟨⟩}
-use Rattle.theory.specs.Term.{Kind, kindArity, longWay}
+use Rattle.theory.specs.Term.{kindArity, longWay}
 use Rattle.texts.specs.Text.{Declarations, noDeclaration}
 use Rattle.tokens.specs.Expr.{Expr, Exprs}
 use Rattle.tokens.specs.declared.Token.{Token}
@@ -51,7 +51,3 @@ abbrev mutual
   pub TextsName : (ℕ → Type 0) → (ℕ → Type 0) → List ℕ → Exprs → Type 0
   TextsName N F refs ⟨⟩ = Unit {0}
   TextsName N F refs (t ▹ ts) = TextNames N F refs t × TextsName N F refs ts
-
--- what the table of forms gives for a declaration, `number` being its number by kind and name
-abbrev pub tableOf : List ℕ → List ℕ → (Kind → ℕ → ℕ) → Table ℕ
-tableOf numbers words number k x us = sceneOf numbers words .declarations (number k x) us

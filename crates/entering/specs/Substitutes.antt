@@ -1,21 +1,25 @@
 -- What stands for the declarations of the module instanced.
 use mathlib.Core.Path.{_≡_}
-use mathlib.Core.List.{List, [], _∷_}
+use mathlib.Core.Bool.{cond}
+use mathlib.Core.List.{List}
 use mathlib.Core.Logic.{_≢_}
+use mathlib.Core.Option.{Option, none, some}
 use Prim.Native.Nat.{ℕ, _+_, _*_, _≤_, _<_}
+use lib.Dec.{eqb}
 use lib.ListN.{getD, length}
 use Rattle.limits.specs.Limits.{maxArity, maxDeclarations, maxModules}
-use Rattle.theory.specs.Lists.{All}
+use Rattle.theory.specs.Lists.{bindOption}
 use Rattle.forms.specs.declared.Form.{Form}
 use Rattle.forms.specs.Forms.{Fit, Gives}
 use Rattle.forms.specs.Tables.{formAt}
 use Rattle.levels.specs.Walk.{TextForm}
 use Rattle.context.specs.Store.{kindAt}
+use Rattle.context.specs.Lookup.{declaredNamed}
 use Rattle.entering.specs.declared.substitutes.Site.{Site}
 use Rattle.entering.specs.declared.written.Writing.{Writing}
 use Rattle.entering.specs.declared.written.Writing.the-variants.{Written, Unwritten}
 use Rattle.entering.specs.Written.{writtenAt}
-use Rattle.entering.specs.Implied.{argumentsOf, impliedLevel, impliedRef, numberOf}
+use Rattle.entering.specs.Implied.{argumentsOf, impliedLevel, impliedRef}
 
 -- a form for each declaration
 abbrev pub nextWords : ℕ
@@ -64,29 +68,27 @@ pub record Stands (a : Around) (site : Site) (o : ℕ) (f : Form) : Type 0 where
   pub fit : Fit f
   pub means : StandsBy a site o (writtenAt (site .count) (a .file) (site .start) (getD (a .names) o 0)) f
 
--- the table with what stands for one code, if that is a declaration's
-pub record Added (a : Around) (site : Site) (o : ℕ) (before after : List ℕ) : Type 0 where
+-- the table with what stands for o at d
+pub record Placed (a : Around) (site : Site) (o d : ℕ) (before after : List ℕ) : Type 0 where
   pub size : length after ≡ length before
-  pub here : numberOf (a .facts) o < maxDeclarations → Stands a site o (formAt after (numberOf (a .facts) o))
-  pub others : (g : ℕ) → g ≢ numberOf (a .facts) o → formAt after g ≡ formAt before g
+  pub here : Stands a site o (formAt after d)
+  pub others : (g : ℕ) → g ≢ d → formAt after g ≡ formAt before g
 
--- no two declarations in a list of codes have one number
-abbrev pub Same : List ℕ → ℕ → ℕ → Type 0
-Same facts o p = numberOf facts o < maxDeclarations → numberOf facts p ≡ numberOf facts o → p ≡ o
+-- o if it has the kind of e
+unfoldable pub ofKind : List ℕ → ℕ → ℕ → Option ℕ
+ofKind facts e o = cond (eqb (kindAt facts o) (kindAt facts e)) (some o) none
 
-abbrev pub Apart : List ℕ → List ℕ → Type 0
-Apart facts [] = Unit {0}
-Apart facts (o ∷ os) = All (Same facts o) os × Apart facts os
+-- the declaration among codes that has the name and the kind of the code e
+unfoldable pub sameDeclared : List ℕ → List ℕ → List ℕ → ℕ → Option ℕ
+sameDeclared names facts codes e = bindOption (declaredNamed names facts (getD names e 0) codes) (ofKind facts e)
 
--- the table holds what stands for the declaration o
-abbrev pub Held : Around → Site → List ℕ → ℕ → Type 0
-Held a site table o = numberOf (a .facts) o < maxDeclarations → Stands a site o (formAt table (numberOf (a .facts) o))
-
-abbrev pub NotOf : Around → ℕ → ℕ → Type 0
-NotOf a g o = g ≢ numberOf (a .facts) o
-
--- and so for every declaration among the codes; what is no declaration's there has not changed
-pub record Substituted (a : Around) (site : Site) (codes before after : List ℕ) : Type 0 where
+-- the table with a form at d: what stands for the declaration among codes that has the name and the kind of e, if there is one
+pub record Added (a : Around) (site : Site) (codes : List ℕ) (e d : ℕ) (before after : List ℕ) : Type 0 where
   pub size : length after ≡ length before
-  pub each : Apart (a .facts) codes → All (Held a site after) codes
-  pub others : (g : ℕ) → All (NotOf a g) codes → formAt after g ≡ formAt before g
+  pub here : (o : ℕ) → sameDeclared (a .names) (a .facts) codes e ≡ some o → Stands a site o (formAt after d)
+  pub others : (g : ℕ) → g ≢ d → formAt after g ≡ formAt before g
+
+-- and so for each of the first n declarations of the file, of which `declared` holds the codes
+pub record Substituted (a : Around) (site : Site) (codes declared : List ℕ) (n : ℕ) (before after : List ℕ) : Type 0 where
+  pub size : length after ≡ length before
+  pub each : (d : ℕ) → d < n → (o : ℕ) → sameDeclared (a .names) (a .facts) codes (getD declared d 0) ≡ some o → Stands a site o (formAt after d)

@@ -1,20 +1,22 @@
 // What stands for each declaration of the module instanced, in the world of the INSTANCE field.
 use crate::implied::arguments_of;
-use crate::implied::declared_number;
 use crate::implied::implied_form;
 use crate::implied::implied_ref;
 use crate::written::Writing;
 use crate::written::find_substitution;
+use context::Code;
 use context::lists::number_at;
+use context::lookup::find_declaration;
 use forms::Form;
 use limits::Limits;
 ghost use mathlib.Core.Path.{_≡_};
-ghost use Prim.Native.Nat.{_≤_};
-ghost use lib.ListN.{getD, length};
-ghost use Rattle.limits.specs.Limits.{maxModules};
+ghost use Prim.Native.Nat.{_≤_, _<_};
+ghost use lib.ListN.{length};
+ghost use Rattle.limits.specs.Limits.{maxDeclarations, maxModules};
 ghost use Rattle.context.specs.Store.{contextCodes};
+ghost use Rattle.context.specs.Lookup.{asCode};
 ghost use Rattle.levels.specs.Tables.{tableWords};
-ghost use Rattle.entering.specs.Substitutes.{Added, Fitting, Stands, Substituted, around, nextWords};
+ghost use Rattle.entering.specs.Substitutes.{Added, Fitting, Placed, Stands, Substituted, around, nextWords, ofKind, sameDeclared};
 
 // An INSTANCE field: the instances' parameters around it, its own, the module that it stands in, where its substitutions begin, and how
 // many there are.
@@ -54,8 +56,8 @@ pub fn substitute_form(
     }
 }
 
-// Stores it at the declaration's number; of any other code there is nothing to store.
-fn enter_substitute(
+// The form at d of what stands for the declaration o.
+fn put_substitute(
     s: &[u8],
     refs: &[u16],
     numbers: &[u16],
@@ -66,48 +68,13 @@ fn enter_substitute(
     heads: &[u16],
     site: Site,
     o: u16,
+    d: usize,
     next: &mut [u64],
 )
-    requires { ⌜ (length (now words) ≡ tableWords) × Fitting site × (length (now next) ≡ nextWords) ⌝ }
-    ensures { λ r. ⌜ Added (around (now (s .entry)) (now (refs .entry)) (now (numbers .entry)) (now (words .entry)) (now (names .entry)) (now (facts .entry)) (now (contexts .entry)) (now (heads .entry))) site o (now (next .entry)) (now (next .exit)) ⌝ }
+    requires { ⌜ (length (now words) ≡ tableWords) × Fitting site × (length (now next) ≡ nextWords) × (d < maxDeclarations) ⌝ }
+    ensures { λ r. ⌜ Placed (around (now (s .entry)) (now (refs .entry)) (now (numbers .entry)) (now (words .entry)) (now (names .entry)) (now (facts .entry)) (now (contexts .entry)) (now (heads .entry))) site o d (now (next .entry)) (now (next .exit)) ⌝ }
 {
-    let d = declared_number(facts, o);
-    if d < Limits::DECLARATIONS {
-        let f = substitute_form(
-            s,
-            refs,
-            numbers,
-            words,
-            names,
-            facts,
-            contexts,
-            heads,
-            site,
-            o,
-        );
-        forms::table::store(next, d, f);
-    }
-}
-
-// The same for the code at a place of the contexts.
-fn enter_code(
-    s: &[u8],
-    refs: &[u16],
-    numbers: &[u16],
-    words: &[u64],
-    names: &[u16],
-    facts: &[u16],
-    contexts: &[u16],
-    heads: &[u16],
-    site: Site,
-    at: usize,
-    next: &mut [u64],
-)
-    requires { ⌜ (length (now words) ≡ tableWords) × Fitting site × (length (now next) ≡ nextWords) ⌝ }
-    ensures { λ r. ⌜ Added (around (now (s .entry)) (now (refs .entry)) (now (numbers .entry)) (now (words .entry)) (now (names .entry)) (now (facts .entry)) (now (contexts .entry)) (now (heads .entry))) site (getD (now (contexts .entry)) at 0) (now (next .entry)) (now (next .exit)) ⌝ }
-{
-    let o = number_at(contexts, at);
-    enter_substitute(
+    let f = substitute_form(
         s,
         refs,
         numbers,
@@ -118,12 +85,44 @@ fn enter_code(
         heads,
         site,
         o,
-        next,
     );
+    forms::table::store(next, d, f);
 }
 
-// The forms of what stands for the declarations in the context of module q, in a table of their own.
-pub fn enter_substitutes(
+// o if it has the kind of e.
+fn of_kind(facts: &[u16], e: u16, o: u16) -> Code
+    ensures { λ r. ⌜ r ≡ asCode (ofKind (now (facts .entry)) e o) ⌝ }
+{
+    let k = number_at(facts, Limits::COLUMNS * (o as usize));
+    if k == number_at(facts, Limits::COLUMNS * (e as usize)) {
+        return Code::At(o);
+    }
+    Code::Absent
+}
+
+// The declaration in the context of module q that has the name and the kind of e.
+fn same_declared(
+    names: &[u16],
+    facts: &[u16],
+    contexts: &[u16],
+    heads: &[u16],
+    q: usize,
+    e: u16,
+) -> Code
+    requires { ⌜ q ≤ maxModules ⌝ }
+    ensures { λ r. ⌜ r ≡ asCode (sameDeclared (now (names .entry)) (now (facts .entry)) (contextCodes (now (contexts .entry)) (now (heads .entry)) q) e) ⌝ }
+{
+    let name = number_at(names, e as usize);
+    let from = q * Limits::CONTEXT;
+    let count = number_at(heads, Limits::PLACES + q) as usize;
+    match find_declaration(names, facts, contexts, from, from + count, name) {
+        Code::At(o) => of_kind(facts, e, o),
+        Code::Absent => Code::Absent,
+    }
+}
+
+// The form at d of what stands for the declaration of module q that has the name and the kind of e, if there is one.
+fn enter_substitute(
     s: &[u8],
     refs: &[u16],
     numbers: &[u16],
@@ -134,16 +133,15 @@ pub fn enter_substitutes(
     heads: &[u16],
     site: Site,
     q: usize,
+    e: u16,
+    d: usize,
     next: &mut [u64],
 )
-    requires { ⌜ (length (now words) ≡ tableWords) × Fitting site × (length (now next) ≡ nextWords) × (q ≤ maxModules) ⌝ }
-    ensures { λ r. ⌜ Substituted (around (now (s .entry)) (now (refs .entry)) (now (numbers .entry)) (now (words .entry)) (now (names .entry)) (now (facts .entry)) (now (contexts .entry)) (now (heads .entry))) site (contextCodes (now (contexts .entry)) (now (heads .entry)) q) (now (next .entry)) (now (next .exit)) ⌝ }
+    requires { ⌜ (length (now words) ≡ tableWords) × Fitting site × (length (now next) ≡ nextWords) × (q ≤ maxModules) × (d < maxDeclarations) ⌝ }
+    ensures { λ r. ⌜ Added (around (now (s .entry)) (now (refs .entry)) (now (numbers .entry)) (now (words .entry)) (now (names .entry)) (now (facts .entry)) (now (contexts .entry)) (now (heads .entry))) site (contextCodes (now (contexts .entry)) (now (heads .entry)) q) e d (now (next .entry)) (now (next .exit)) ⌝ }
 {
-    let base = q * Limits::CONTEXT;
-    let mut i = number_at(heads, Limits::PLACES + q) as usize;
-    while 0 < i {
-        i -= 1;
-        enter_code(
+    match same_declared(names, facts, contexts, heads, q, e) {
+        Code::At(o) => put_substitute(
             s,
             refs,
             numbers,
@@ -153,8 +151,52 @@ pub fn enter_substitutes(
             contexts,
             heads,
             site,
-            base + i,
+            o,
+            d,
+            next,
+        ),
+        Code::Absent => {}
+    }
+}
+
+// The forms of what stands for the declarations of module q, in a table of their own: by number, among the first n declarations of the
+// file, whose codes are given.
+pub fn enter_substitutes(
+    s: &[u8],
+    refs: &[u16],
+    numbers: &[u16],
+    words: &[u64],
+    names: &[u16],
+    facts: &[u16],
+    contexts: &[u16],
+    heads: &[u16],
+    declared: &[u16],
+    n: usize,
+    site: Site,
+    q: usize,
+    next: &mut [u64],
+)
+    requires { ⌜ (length (now words) ≡ tableWords) × Fitting site × (length (now next) ≡ nextWords) × (q ≤ maxModules) × (n ≤ maxDeclarations) ⌝ }
+    ensures { λ r. ⌜ Substituted (around (now (s .entry)) (now (refs .entry)) (now (numbers .entry)) (now (words .entry)) (now (names .entry)) (now (facts .entry)) (now (contexts .entry)) (now (heads .entry))) site (contextCodes (now (contexts .entry)) (now (heads .entry)) q) (now (declared .entry)) n (now (next .entry)) (now (next .exit)) ⌝ }
+{
+    let mut d: usize = 0;
+    while d < n {
+        let e = number_at(declared, d);
+        enter_substitute(
+            s,
+            refs,
+            numbers,
+            words,
+            names,
+            facts,
+            contexts,
+            heads,
+            site,
+            q,
+            e,
+            d,
             next,
         );
+        d += 1;
     }
 }

@@ -22,9 +22,9 @@ use Rattle.rules.specs.State as rules
 use Rattle.theory.proofs.Lists.{at-all}
 use Rattle.theory.specs.Lists.{All}
 
--- directly after a module field the open module is empty
+-- outside a module, and directly after a module field, the open module is empty
 abbrev pub EmptyIn : rules.Phase → Module → Type 0
-EmptyIn outside M = Unit {0}
+EmptyIn outside M = (M .context ≡ []) × (M .definitions ≡ [])
 EmptyIn begun M = (M .context ≡ []) × (M .definitions ≡ [])
 EmptyIn inside M = Unit {0}
 
@@ -32,7 +32,7 @@ abbrev pub Fresh : State → Type 0
 Fresh s = EmptyIn (s .phase) (s .current)
 
 pub fresh-start : Fresh start
-fresh-start = tt
+fresh-start = (refl, refl)
 
 pub fresh-add : (s : State) (f : Field) → Fresh (add s f)
 fresh-add s (begin-module n) = (refl, refl)
@@ -41,7 +41,7 @@ fresh-add s (declare-constant n k) = tt
 fresh-add s (declare-variable n) = tt
 fresh-add s (definition n p e) = tt
 fresh-add s (instance n p m ss) = tt
-fresh-add s end-module = tt
+fresh-add s end-module = (refl, refl)
 fresh-add s (assume e) = tt
 fresh-add s (theorem e) = tt
 

@@ -4,6 +4,7 @@ use differential::cases::{Call, Case};
 use differential::checker::Checker;
 use differential::checker_named;
 use differential::families::{self, Family};
+use std::iter;
 use std::process::ExitCode;
 use std::time::{Duration, Instant};
 
@@ -51,13 +52,14 @@ struct Memory {
 
 fn call(checker: &dyn Checker, family: &Family, memory: &mut Memory) -> u64 {
     let (file, cards) = (&family.file[..], &mut memory.cards[..]);
+    let queries = || checker.queries().expect("queries are answered");
     match &family.call {
         Call::Check => checker.check(file, cards) as u64,
         Call::Level {
             module,
             expr,
             levels,
-        } => checker.level(file, cards, *module, expr, levels) as u64,
+        } => queries().level(file, cards, *module, expr, levels) as u64,
         Call::Expand {
             module,
             expr,
@@ -65,10 +67,10 @@ fn call(checker: &dyn Checker, family: &Family, memory: &mut Memory) -> u64 {
             room,
         } => {
             let out = &mut memory.out[..*room];
-            checker.expand(file, cards, *module, expr, *params, out) as u64
+            queries().expand(file, cards, *module, expr, *params, out) as u64
         }
-        Call::Alike { a, b } => checker.alike(file, cards, *a, *b) as u64,
-        Call::Body { d } => checker.body(file, cards, *d),
+        Call::Alike { a, b } => queries().alike(file, cards, *a, *b) as u64,
+        Call::Body { d } => queries().body(file, cards, *d),
     }
 }
 
@@ -109,7 +111,12 @@ fn run() -> Result<(), String> {
         families::checks(),
         families::queries(given.large),
     ];
-    for family in families.iter().flatten() {
+    // Queries only where both sides answer them.
+    let answered = |family: &&Family| {
+        let mut sides = iter::once(&left).chain(&right);
+        matches!(family.call, Call::Check) || sides.all(|side| side.queries().is_some())
+    };
+    for family in families.iter().flatten().filter(answered) {
         let case = Case::new(&family.file, family.call.clone());
         let reply = case.reply(&case.run(&*left));
         let time = best(&*left, family, given.rounds, &mut memory);

@@ -59,6 +59,9 @@ fn compare() -> Result<bool, String> {
         right,
     } = arguments()?;
     let (left, right) = (checker_named(&left)?, checker_named(&right)?);
+    if options.queries && (left.queries().is_none() || right.queries().is_none()) {
+        return Err("a checker of these answers no queries".into());
+    }
     let (files, seed) = (options.files, options.seed);
     println!("{} and {}, seed {seed}", left.name(), right.name());
     let report = run(&*left, &*right, options);

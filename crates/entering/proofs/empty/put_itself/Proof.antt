@@ -4,9 +4,6 @@ use borrow.Author.Needs.{needs}
 use Rattle.entering.proofs.empty.put_itself.Statement.{statement}
 use Rattle.entering.proofs.empty.put_itself.Tie as tie
 
-number-at-requires : tie.Need-number-at-requires
-number-at-requires c κs = search needs
-
 itself-requires : tie.Need-itself-requires
 itself-requires c κs = search needs
 
@@ -24,5 +21,4 @@ returns c = search put-itself
 
 pub put-itself-spec : {M : Type 1} → statement M
 put-itself-spec =
-    tie.close
-    (tie.spec number-at-requires itself-requires add-store store-requires same-length returns)
+    tie.close (tie.spec itself-requires add-store store-requires same-length returns)

@@ -1,17 +1,20 @@
--- `substitutes::enter_substitute`: one form stored, or nothing.
+-- `substitutes::enter_substitute`: the declaration found has its form, or nothing has changed.
 use Rattle.entering.proofs.Substituting.{added-one, added-none}
 use borrow.Author.Needs.{needs}
 use Rattle.entering.proofs.substitutes.enter_substitute.Statement.{statement}
 use Rattle.entering.proofs.substitutes.enter_substitute.Tie as tie
 
-declared-number-requires : tie.Need-declared-number-requires
-declared-number-requires c κs = search needs
+same-declared-requires : tie.Need-same-declared-requires
+same-declared-requires c κs = search needs
 
-substitute-form-requires : tie.Need-substitute-form-requires
-substitute-form-requires c κs = search needs
+enum-known-o : tie.Need-enum-known-o
+enum-known-o c = search needs
 
-store-requires : tie.Need-store-requires
-store-requires c κs = search needs
+put-substitute-requires : tie.Need-put-substitute-requires
+put-substitute-requires c κs = search needs
+
+enum-told : tie.Need-enum-told
+enum-told c = search needs
 
 same-length : tie.Need-same-length
 same-length c = search needs
@@ -26,9 +29,10 @@ pub enter-substitute-spec : {M : Type 1} → statement M
 enter-substitute-spec =
     tie.close
     (tie.spec
-    declared-number-requires
-    substitute-form-requires
-    store-requires
+    same-declared-requires
+    enum-known-o
+    put-substitute-requires
+    enum-told
     same-length
     returns
     returns-2)

@@ -1,52 +1,42 @@
--- `substitutes::enter_substitutes`: the codes from i on have their forms.
-use Rattle.entering.specs.Substitutes.{around}
-use Rattle.entering.proofs.Substituting.{Substituting, substituting-start, substituting-turn, substituting-whole, substituting-length}
+-- `substitutes::enter_substitutes`: the first d declarations have their forms.
+use Prim.Native.Nat.{_-_, _≤_}
+use Rattle.context.specs.Store.{contextCodes}
+use Rattle.entering.specs.Substitutes.{Substituted, around}
+use Rattle.entering.proofs.Substituting.{substituted-start, substituted-turn, substituted-whole, substituted-length}
 use borrow.Author.Needs.{needs}
 use Rattle.entering.proofs.substitutes.enter_substitutes.Statement.{statement}
 use Rattle.entering.proofs.substitutes.enter_substitutes.Tie as tie
 
 abbrev Inv-loop : tie.InvT-loop
-Inv-loop s refs numbers words names facts contexts heads site q next₀ base i₀ next i =
-    Substituting (around s refs numbers words names facts contexts heads) site contexts base i₀ next₀ next i
+Inv-loop s refs numbers words names facts contexts heads declared n site q next₀ d₀ next d =
+    (d ≤ n) × Substituted (around s refs numbers words names facts contexts heads) site (contextCodes contexts heads q) declared d next₀ next
 
 abbrev μ-loop : tie.MeasureT-loop
-μ-loop s refs numbers words names facts contexts heads site q next₀ base i₀ next i = i
+μ-loop s refs numbers words names facts contexts heads declared n site q next₀ d₀ next d = n - d
 
-mul-base : tie.Need-mul-base Inv-loop μ-loop
-mul-base c = search needs
-
-add-number-at : tie.Need-add-number-at Inv-loop μ-loop
-add-number-at c = search needs
+loop-holds : tie.Need-loop-holds Inv-loop μ-loop
+loop-holds c = (search needs, search substituted-start)
 
 number-at-requires : tie.Need-number-at-requires Inv-loop μ-loop
 number-at-requires c κs = search needs
 
-cast-i : tie.Need-cast-i Inv-loop μ-loop
-cast-i c = search needs
+enter-substitute-requires : tie.Need-enter-substitute-requires Inv-loop μ-loop
+enter-substitute-requires c κs = search (needs, substituted-length)
 
-loop-holds : tie.Need-loop-holds Inv-loop μ-loop
-loop-holds c = search substituting-start
-
-sub-i : tie.Need-sub-i Inv-loop μ-loop
-sub-i c = search needs
-
-add-enter-code : tie.Need-add-enter-code Inv-loop μ-loop
-add-enter-code c = search needs
-
-enter-code-requires : tie.Need-enter-code-requires Inv-loop μ-loop
-enter-code-requires c κs = search (needs, substituting-length)
+add-d : tie.Need-add-d Inv-loop μ-loop
+add-d c = search needs
 
 loop-less : tie.Need-loop-less Inv-loop μ-loop
 loop-less c = search needs
 
 loop-again : tie.Need-loop-again Inv-loop μ-loop
-loop-again c = search substituting-turn
+loop-again c = (search needs, search substituted-turn)
 
 same-length : tie.Need-same-length Inv-loop μ-loop
-same-length c = search (needs, substituting-length)
+same-length c = search (needs, substituted-length)
 
 returns : tie.Need-returns Inv-loop μ-loop
-returns c = search (needs, substituting-whole)
+returns c = search substituted-whole
 
 pub enter-substitutes-spec : {M : Type 1} → statement M
 enter-substitutes-spec =
@@ -54,14 +44,10 @@ enter-substitutes-spec =
     (tie.spec
     Inv-loop
     μ-loop
-    mul-base
-    add-number-at
-    number-at-requires
-    cast-i
     loop-holds
-    sub-i
-    add-enter-code
-    enter-code-requires
+    number-at-requires
+    enter-substitute-requires
+    add-d
     loop-less
     loop-again
     same-length
