@@ -1,0 +1,10 @@
+pub mod Texts
+pub mod Names
+pub mod Links
+pub mod Forms
+pub mod Growth
+pub mod Advancing
+pub mod Plain
+pub mod Asking
+pub mod Adding
+pub mod Defining

@@ -1,0 +1,4 @@
+pub mod Shown
+pub mod Chained
+pub mod Standing
+pub mod Grows
