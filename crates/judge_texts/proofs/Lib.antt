@@ -1,0 +1,6 @@
+pub mod TextShown
+pub mod Answers
+pub mod Reading
+pub mod FormulaLaws
+pub mod NewForm
+pub mod DefinitionLaws

@@ -1,0 +1,92 @@
+-- The card of a new own definition is the level of its body by the cards before it; so its form shows it.
+use borrow.Author.Tests.{ltb-false, ltb-true}
+use mathlib.Core.Bool.{Bool, false, true}
+use mathlib.Core.List.{List, [], _++_, _∷_, append-nil, map}
+use mathlib.Core.Path.{_∙_, _≡_, ap, refl, subst, sym}
+use Prim.Native.Nat.{ℕ, _+_, _*_, _≤_, _<_}
+use native.Mathlib.Nat.{zero-add}
+use native.Mathlib.Omega.{arith}
+use lib.Dec.{ltb}
+use lib.ListN.{getD, length, length-append, length-map}
+use lib.Seq.{getD-at, length-paste}
+use Rattle.limits.specs.Limits.{maxDefinitions}
+use Rattle.theory.specs.Expand.{Definition, Template, cards, own, summariesFrom, summaryOf, templateOf, templatesFrom}
+use Rattle.theory.specs.Lists.{All}
+use Rattle.theory.specs.Term.{Term, byCards, level, longWay}
+use Rattle.theory.proofs.Levels.{IsLevel}
+use Rattle.rules.specs.State.{Added, State, cardLevel, levelOf, meanings, paramsOf}
+use Rattle.forms.specs.Forms.{levelAt}
+use Rattle.forms.specs.Tables.{formAt, stored, words as wordsOf}
+use Rattle.forms.specs.declared.Form.{Form}
+use Rattle.forms.proofs.Tables.{load-other}
+use Rattle.levels.proofs.Named.{numbers-at}
+use Rattle.levels.specs.Tables.{sceneOf, tableWords}
+use Rattle.texts.specs.Text.{Declarations}
+use Rattle.text_levels.proofs.OwnWorld.{Shows}
+use Rattle.standing.specs.Standing.{itselves}
+use Rattle.standing.proofs.Forms.{declaration-form, definition-form}
+
+summaries-append : (ts : List Template) (ss : List (List ℕ → ℕ)) (ds es : List Definition)
+    → summariesFrom longWay ts ss (ds ++ es) ≡ summariesFrom longWay (templatesFrom ts ds) (summariesFrom longWay ts ss ds) es
+summaries-append ts ss [] es = refl
+summaries-append ts ss (d ∷ ds) es = summaries-append (ts ++ (templateOf ts d ∷ [])) (ss ++ (summaryOf longWay ts ss d ∷ [])) ds es
+
+summaries-length : (ts : List Template) (ss : List (List ℕ → ℕ)) (ds : List Definition) → length (summariesFrom longWay ts ss ds) ≡ length ss + length ds
+summaries-length ts ss [] = omega arith
+summaries-length ts ss (d ∷ ds) =
+    summaries-length (ts ++ (templateOf ts d ∷ [])) (ss ++ (summaryOf longWay ts ss d ∷ [])) ds
+    ∙ rw (length-append ss (summaryOf longWay ts ss d ∷ [])) (omega arith)
+
+-- the card of the last definition, an own one
+card-new : (ds : List Definition) (n : ℕ) (t : Term) (us : List ℕ) (g : ℕ) → length ds ≡ g → cards (ds ++ (own n t ∷ [])) g us ≡ level (byCards (cards ds)) us t
+card-new ds n t us g e =
+    let ss = summariesFrom longWay [] [] ds in
+    ap (λ (l : List (List ℕ → ℕ)). getD l g (λ vs. longWay .unknown) us) (summaries-append [] [] ds (own n t ∷ []))
+    ∙ ap (λ (f : List ℕ → ℕ). f us)
+    (getD-at ss (summaryOf longWay (templatesFrom [] ds) ss (own n t)) [] (λ vs. longWay .unknown) g (summaries-length [] [] ds ∙ zero-add (length ds) ∙ e))
+
+map-more : {A B : Type 0} (f : A → B) (xs ys : List A) → map f (xs ++ ys) ≡ map f xs ++ map f ys
+map-more f [] ys = refl
+map-more f (x ∷ xs) ys = ap (_∷_ (f x)) (map-more f xs ys)
+
+-- a state with one own definition more
+module _ (s s′ : State) (d : Added) (n : ℕ) (t : Term) (added : s′ .definitions ≡ s .definitions ++ (d ∷ [])) (is : d .meaning ≡ own n t) (few : length (s .definitions) < maxDefinitions) where
+  new-level : (g : ℕ) (us : List ℕ) → length (s .definitions) ≡ g → cardLevel s′ g us ≡ levelOf s us t
+  new-level g us e =
+      ap (λ (ds : List Definition). cards ds g us)
+      (ap (map (λ (d : Added). d .meaning)) added ∙ map-more (λ (d : Added). d .meaning) (s .definitions) (d ∷ []) ∙ ap (λ (y : Definition). meanings s ++ (y ∷ [])) is)
+      ∙ card-new (meanings s) n t us g (length-map (s .definitions) (λ (d : Added). d .meaning) ∙ e)
+
+  -- the table with its form at its number
+  module _ (words words′ : List ℕ) (form : Form) (size : length words ≡ tableWords) (kept : words′ ≡ stored words (length (s .definitions)) form)
+      (there : formAt words′ (length (s .definitions)) ≡ form) where
+    pub words-length : length words′ ≡ tableWords
+    unfolding stored
+    words-length = ap length kept ∙ length-paste words (length (s .definitions) * 4) (wordsOf form) 4 (omega arith) (omega arith) ∙ size
+
+    other-form : (g : ℕ) → (g ≡ length (s .definitions) → ⊥) → formAt words′ g ≡ formAt words g
+    other-form g other = ap (λ (w : List ℕ). formAt w g) kept ∙ load-other words (length (s .definitions)) g form (omega arith) other
+
+    -- shows the state after it
+    pub shows-new : (decls : Declarations) → Shows (sceneOf itselves words) decls s
+        → ((us : List ℕ) → length us ≡ paramsOf s′ (length (s .definitions)) → All IsLevel us → levelAt form us ≡ levelOf s us t)
+        → Shows (sceneOf itselves words′) (decls ++ []) s′
+    shows-new decls shows gives = record {
+      definitions = λ g us l e a. at-definition g us l e a (ltb g (length (s .definitions))) refl;
+      declarations = λ i us l e a.
+          declaration-form s s′ (d ∷ []) added words words′ decls shows [] (λ j k. other-form (maxDefinitions + j) (λ (z : maxDefinitions + j ≡ length (s .definitions)). omega arith)) i us
+          (subst (λ (y : Declarations). i < length y) (append-nil decls) l) e a;
+    }
+      where
+        at-definition : (g : ℕ) (us : List ℕ) → g < length (s′ .definitions) → length us ≡ paramsOf s′ g → All IsLevel us → (b : Bool) → ltb g (length (s .definitions)) ≡ b
+            → sceneOf itselves words′ .definitions g us ≡ cardLevel s′ g us
+        at-definition g us l e a true k =
+            let h : g < length (s .definitions) = ltb-true g (length (s .definitions)) k in
+            definition-form s s′ (d ∷ []) added words words′ decls shows (omega arith) (λ j m. other-form j (λ (z : j ≡ length (s .definitions)). omega arith)) g us h e a
+        at-definition g us l e a false k =
+            let h : length (s .definitions) ≤ g = ltb-false g (length (s .definitions)) k in
+            let m : length (s′ .definitions) ≡ length (s .definitions) + 1 = ap length added ∙ length-append (s .definitions) (d ∷ []) in
+            let i : length (s .definitions) ≡ g = omega arith in
+            let n : getD itselves g 0 ≡ g = sym (numbers-at 0 maxDefinitions g (omega arith)) ∙ zero-add g in
+            ap (λ (h : ℕ). levelAt (formAt words′ h) us) (n ∙ sym i) ∙ ap (λ (f : Form). levelAt f us) there
+            ∙ gives us (e ∙ ap (paramsOf s′) (sym i)) a ∙ sym (new-level g us i)

@@ -1,0 +1,82 @@
+// Fields with one expression: definition, ASSUME, THEOREM. Each is judged as the rules judge it, and added if no cause holds.
+pub mod definitions;
+pub mod formulas;
+
+ghost use mathlib.Core.Path.{_≡_};
+ghost use Prim.Native.Nat.{_≤_};
+ghost use lib.ListN.{length};
+ghost use Rattle.limits.specs.Limits.{maxModules};
+ghost use Rattle.context.specs.Store.{contextCodes};
+ghost use Rattle.levels.specs.Tables.{tableWords};
+ghost use Rattle.levels.specs.Walk.{TextForm};
+ghost use Rattle.standing.specs.Standing.{itselves};
+ghost use Rattle.judge_texts.specs.Texts.{Texted, textCause};
+use forms::Form;
+use forms::card::level_at_zero;
+use levels::names::identity;
+use levels::text_form;
+use limits::Limits;
+use resolve::walk::look_at;
+
+// What a text comes to: the position after it; whether something in it is unknown (cause 9), or an argument count wrong (cause 10); its level
+// with parameters at 0; its form.
+pub struct Text {
+    pub next: usize,
+    pub unknown: bool,
+    pub miscounted: bool,
+    pub level: u8,
+    pub form: Form,
+}
+
+// The form of a text of the module that is open: every definition is itself, no instance is around it.
+pub fn own_form(file: &[u8], refs: &[u16], words: &[u64], at: usize) -> Form
+    requires { ⌜ length (now words) ≡ tableWords ⌝ }
+    ensures { λ r. ⌜ TextForm (now (refs .entry)) itselves (now (words .entry)) (now (file .entry)) 0 at r ⌝ }
+{
+    let mut numbers = [0u16; Limits::DEFINITIONS];
+    identity(&mut numbers);
+    text_form(file, refs, &numbers, words, at, 0)
+}
+
+// Reads the text at a position, which keeps the limits, in the context of module m, with so many parameters.
+pub fn read_text(
+    file: &[u8],
+    names: &[u16],
+    facts: &[u16],
+    contexts: &[u16],
+    heads: &[u16],
+    refs: &mut [u16],
+    words: &[u64],
+    at: usize,
+    m: usize,
+    params: usize,
+) -> Text
+    requires { ⌜ (m ≤ maxModules) × (length (now words) ≡ tableWords) ⌝ }
+    ensures { λ r. ⌜ Texted (now (names .entry)) (now (facts .entry)) (contextCodes (now (contexts .entry)) (now (heads .entry)) m) (now (file .entry)) (now (words .entry)) params at (now (refs .entry)) (now (refs .exit)) r ⌝ }
+{
+    let k = look_at(file, names, facts, contexts, heads, refs, at, m, params);
+    let form = own_form(file, refs, words, at);
+    Text {
+        next: k.next,
+        unknown: k.unknown,
+        miscounted: k.miscounted,
+        level: level_at_zero(form),
+        form: form,
+    }
+}
+
+// The first of the causes 9, 10 and 12 that holds of a text.
+pub fn text_cause(t: Text) -> u8
+    ensures { λ r. ⌜ r ≡ textCause t ⌝ }
+{
+    if t.unknown {
+        return 9;
+    }
+    if t.miscounted {
+        return 10;
+    }
+    if t.level == 4 {
+        return 12;
+    }
+    0
+}
