@@ -1,4 +1,3 @@
-pub mod TextShown
 pub mod Answers
 pub mod Reading
 pub mod FormulaLaws

@@ -45,7 +45,7 @@ use Rattle.standing.specs.Shown.{TextShown}
 use Rattle.standing.specs.Standing.{Standing, itselves}
 use Rattle.judge_texts.specs.Texts.{Texted, isPassed, lastCause, textCause}
 use Rattle.judge_texts.specs.declared.Text.{Text}
-use Rattle.judge_texts.proofs.TextShown.{text-right, text-shown}
+use Rattle.standing.proofs.TextShown.{text-right, text-shown}
 
 mutual
   all-tokens : (t : Expr) → AllTokens (λ i x. isToken x ≡ true) t → Tokens t

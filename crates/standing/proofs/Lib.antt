@@ -1,4 +1,5 @@
 pub mod Texts
+pub mod TextShown
 pub mod Names
 pub mod Links
 pub mod Forms

@@ -109,7 +109,7 @@ note-length look at t refs = go (isName t)
     go false = refl
 
 mutual
-  below-same : (t : Expr) (m : ℕ) (refs refs′ : List ℕ) (lo hi : ℕ) → Span lo hi t → AgreeFrom lo hi refs refs′ → RefsBelow m refs t → RefsBelow m refs′ t
+  pub below-same : (t : Expr) (m : ℕ) (refs refs′ : List ℕ) (lo hi : ℕ) → Span lo hi t → AgreeFrom lo hi refs refs′ → RefsBelow m refs t → RefsBelow m refs′ t
   below-same (node h ts) m refs refs′ lo hi (a, b, c) e (x, y) =
       (λ n. subst (λ (r : ℕ). r < m) (e (h .at) a b) (x n), belows-same ts m refs refs′ (suc (h .at)) hi c (λ i l k. e i (omega arith) k) y)
 

@@ -1,0 +1,37 @@
+use Rattle.instance_names.proofs.Turns.{known-there}
+use borrow.Author.Needs.{needs}
+use Rattle.instance_names.proofs.implied.implied_unknown.Statement.{statement}
+use Rattle.instance_names.proofs.implied.implied_unknown.Tie as tie
+
+mul-from : tie.Need-mul-from
+mul-from c = search needs
+
+add-number-at : tie.Need-add-number-at
+add-number-at c = search needs
+
+number-at-requires : tie.Need-number-at-requires
+number-at-requires c κs = search needs
+
+cast-n : tie.Need-cast-n
+cast-n c = search needs
+
+add-unknown-among : tie.Need-add-unknown-among
+add-unknown-among c = search needs
+
+unknown-among-requires : tie.Need-unknown-among-requires
+unknown-among-requires c κs = search needs
+
+returns : tie.Need-returns
+returns c = search (needs, known-there)
+
+pub implied-unknown-spec : {M : Type 1} → statement M
+implied-unknown-spec =
+    tie.close
+    (tie.spec
+    mul-from
+    add-number-at
+    number-at-requires
+    cast-n
+    add-unknown-among
+    unknown-among-requires
+    returns)
