@@ -1,0 +1,93 @@
+// The forms of the definitions that an INSTANCE field brought, in order: each is worked out by those before it.
+use crate::world::world_form;
+ghost use mathlib.Core.Bool.{_||_};
+ghost use mathlib.Core.Path.{_≡_};
+ghost use Prim.Native.Nat.{_+_, _≤_, _<_};
+ghost use lib.ListN.{length};
+ghost use Rattle.limits.specs.Limits.{maxDeclarations, maxDefinitions};
+ghost use Rattle.context.specs.Store.{store};
+ghost use Rattle.levels.specs.Tables.{tableWords};
+ghost use Rattle.chains.specs.Results.{BroughtForms, FormBrought};
+
+fn either(a: bool, b: bool) -> bool
+    ensures { λ r. ⌜ r ≡ (a || b) ⌝ }
+{
+    if a {
+        return true;
+    }
+    b
+}
+
+// The form of definition d; whether its level is 4 with parameters at 0.
+fn bring_form(
+    file: &[u8],
+    refs: &[u16],
+    words: &mut [u64],
+    names: &[u16],
+    facts: &[u16],
+    contexts: &[u16],
+    orders: &[u16],
+    heads: &[u16],
+    declared: &[u16],
+    n: usize,
+    d: usize,
+) -> bool
+    requires { ⌜ (length (now words) ≡ tableWords) × (n ≤ maxDeclarations) × (d < maxDefinitions) ⌝ }
+    ensures { λ r. ⌜ FormBrought (now (file .entry)) (now (refs .entry)) (store (now (names .entry)) (now (facts .entry)) (now (contexts .entry)) (now (orders .entry)) (now (heads .entry))) (now (declared .entry)) n d (now (words .entry)) (now (words .exit)) r ⌝ }
+{
+    let f = world_form(
+        file,
+        refs,
+        words,
+        names,
+        facts,
+        contexts,
+        orders,
+        heads,
+        declared,
+        n,
+        d,
+    );
+    forms::table::store(words, d, f);
+    forms::card::level_at_zero(f) == 4
+}
+
+// The forms of the definitions from `first` on, `count` of them; whether the level of one is 4 with parameters at 0.
+pub fn brought_forms(
+    file: &[u8],
+    refs: &[u16],
+    words: &mut [u64],
+    names: &[u16],
+    facts: &[u16],
+    contexts: &[u16],
+    orders: &[u16],
+    heads: &[u16],
+    declared: &[u16],
+    n: usize,
+    first: usize,
+    count: usize,
+) -> bool
+    requires { ⌜ (length (now words) ≡ tableWords) × (n ≤ maxDeclarations) × (first + count ≤ maxDefinitions) ⌝ }
+    ensures { λ r. ⌜ BroughtForms (now (file .entry)) (now (refs .entry)) (store (now (names .entry)) (now (facts .entry)) (now (contexts .entry)) (now (orders .entry)) (now (heads .entry))) (now (declared .entry)) n first count (now (words .entry)) (now (words .exit)) r ⌝ }
+{
+    let mut incorrect = false;
+    let mut i: usize = 0;
+    while i < count {
+        let b = bring_form(
+            file,
+            refs,
+            words,
+            names,
+            facts,
+            contexts,
+            orders,
+            heads,
+            declared,
+            n,
+            first + i,
+        );
+        incorrect = either(incorrect, b);
+        i += 1;
+    }
+    incorrect
+}

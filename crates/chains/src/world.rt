@@ -1,0 +1,181 @@
+// The walk along the chain of a definition, and the form of its text at the end.
+use crate::copying::copy_forms;
+use crate::copying::number_all;
+use crate::link::enter_link;
+use crate::link::link_fits;
+use context::Kinds;
+use context::lists::number_at;
+use forms::Form;
+use limits::Limits;
+ghost use mathlib.Core.Bool.{true};
+ghost use mathlib.Core.Path.{_≡_};
+ghost use Prim.Native.Nat.{_≤_, _<_, _*_};
+ghost use lib.ListN.{length};
+ghost use Rattle.limits.specs.Limits.{maxArity, maxDeclarations, maxDefinitions};
+ghost use Rattle.context.specs.Store.{firstAt, linkAt, sourceAt, store, wordCount};
+ghost use Rattle.levels.specs.Tables.{tableWords};
+ghost use Rattle.chains.specs.Walk.{LinkEntered, codeAt, outerAfter, stepFits};
+ghost use Rattle.chains.specs.Results.{Itselves, WorldForm};
+
+// The code of the INSTANCE field that brought a definition.
+fn code_of(facts: &[u16], cur: usize) -> usize
+    requires { ⌜ (cur < maxDefinitions) × (0 < linkAt (now facts) cur) ⌝ }
+    ensures { λ r. ⌜ (r ≡ codeAt (now (facts .entry)) cur) × (r ≤ 2 * wordCount) ⌝ }
+{
+    Limits::DEFINITIONS + (number_at(facts, Limits::COLUMNS * cur + 5) as usize - 1)
+}
+
+// The definition that it was brought from.
+fn source_of(facts: &[u16], cur: usize) -> usize
+    requires { ⌜ cur < maxDefinitions ⌝ }
+    ensures { λ r. ⌜ r ≡ sourceAt (now (facts .entry)) cur ⌝ }
+{
+    number_at(facts, Limits::COLUMNS * cur + 4) as usize
+}
+
+// Where its text begins.
+fn text_of(facts: &[u16], cur: usize) -> usize
+    requires { ⌜ cur < maxDefinitions ⌝ }
+    ensures { λ r. ⌜ r ≡ firstAt (now (facts .entry)) cur ⌝ }
+{
+    number_at(facts, Limits::COLUMNS * cur + 1) as usize
+}
+
+// Whether it was brought, from one below it and by a field within the limits.
+fn step_fits(facts: &[u16], outer: usize, cur: usize) -> bool
+    requires { ⌜ (outer ≤ maxArity) × (cur < maxDefinitions) ⌝ }
+    ensures { λ r. ⌜ r ≡ stepFits (now (facts .entry)) outer cur ⌝ }
+{
+    if number_at(facts, Limits::COLUMNS * cur + 5) == 0 {
+        return false;
+    }
+    if source_of(facts, cur) < cur {
+        return link_fits(facts, outer, code_of(facts, cur));
+    }
+    false
+}
+
+// The parameters around what that instance brought.
+fn outer_after(facts: &[u16], outer: usize, cur: usize) -> usize
+    requires { ⌜ (outer ≤ maxArity) × (cur < maxDefinitions) × (stepFits (now facts) outer cur ≡ true) ⌝ }
+    ensures { λ r. ⌜ r ≡ outerAfter (now (facts .entry)) outer cur ⌝ }
+{
+    let kind = number_at(facts, Limits::COLUMNS * code_of(facts, cur));
+    outer + ((kind - Kinds::INSTANCE) as usize)
+}
+
+// One instance further in.
+fn enter_step(
+    file: &[u8],
+    refs: &[u16],
+    names: &[u16],
+    facts: &[u16],
+    contexts: &[u16],
+    orders: &[u16],
+    heads: &[u16],
+    declared: &[u16],
+    n: usize,
+    numbers: &mut [u16],
+    inner: &mut [u64],
+    outer: usize,
+    cur: usize,
+)
+    requires { ⌜ (length (now numbers) ≡ maxDefinitions) × (length (now inner) ≡ tableWords) × (n ≤ maxDeclarations) × (outer ≤ maxArity) × (cur < maxDefinitions) × (stepFits (now facts) outer cur ≡ true) ⌝ }
+    ensures { λ r. ⌜ LinkEntered (now (file .entry)) (now (refs .entry)) (store (now (names .entry)) (now (facts .entry)) (now (contexts .entry)) (now (orders .entry)) (now (heads .entry))) (now (declared .entry)) n outer (codeAt (now (facts .entry)) cur) (now (numbers .entry)) (now (numbers .exit)) (now (inner .entry)) (now (inner .exit)) ⌝ }
+{
+    let o = code_of(facts, cur);
+    enter_link(
+        file,
+        refs,
+        names,
+        facts,
+        contexts,
+        orders,
+        heads,
+        declared,
+        n,
+        numbers,
+        inner,
+        outer,
+        o,
+    );
+}
+
+// The form of the original's text at the end of the chain of definition d.
+fn walk_chain(
+    file: &[u8],
+    refs: &[u16],
+    names: &[u16],
+    facts: &[u16],
+    contexts: &[u16],
+    orders: &[u16],
+    heads: &[u16],
+    declared: &[u16],
+    n: usize,
+    numbers: &mut [u16],
+    inner: &mut [u64],
+    d: usize,
+) -> Form
+    requires { ⌜ Itselves (now numbers) × (length (now inner) ≡ tableWords) × (n ≤ maxDeclarations) × (d < maxDefinitions) ⌝ }
+    ensures { λ r. ⌜ WorldForm (now (file .entry)) (now (refs .entry)) (now (inner .entry)) (store (now (names .entry)) (now (facts .entry)) (now (contexts .entry)) (now (orders .entry)) (now (heads .entry))) (now (declared .entry)) n d r ⌝ }
+{
+    let mut outer: usize = 0;
+    let mut cur = d;
+    while step_fits(facts, outer, cur) {
+        enter_step(
+            file,
+            refs,
+            names,
+            facts,
+            contexts,
+            orders,
+            heads,
+            declared,
+            n,
+            numbers,
+            inner,
+            outer,
+            cur,
+        );
+        outer = outer_after(facts, outer, cur);
+        cur = source_of(facts, cur);
+    }
+    levels::text_form(file, refs, numbers, inner, text_of(facts, cur), outer)
+}
+
+// The form of definition d, by the forms of those below it and of the declarations.
+pub fn world_form(
+    file: &[u8],
+    refs: &[u16],
+    words: &[u64],
+    names: &[u16],
+    facts: &[u16],
+    contexts: &[u16],
+    orders: &[u16],
+    heads: &[u16],
+    declared: &[u16],
+    n: usize,
+    d: usize,
+) -> Form
+    requires { ⌜ (length (now words) ≡ tableWords) × (n ≤ maxDeclarations) × (d < maxDefinitions) ⌝ }
+    ensures { λ r. ⌜ WorldForm (now (file .entry)) (now (refs .entry)) (now (words .entry)) (store (now (names .entry)) (now (facts .entry)) (now (contexts .entry)) (now (orders .entry)) (now (heads .entry))) (now (declared .entry)) n d r ⌝ }
+{
+    let mut numbers = [0u16; Limits::DEFINITIONS];
+    let mut inner = [0u64; 4 * (Limits::DEFINITIONS + Limits::DECLARATIONS)];
+    number_all(&mut numbers);
+    copy_forms(words, &mut inner);
+    walk_chain(
+        file,
+        refs,
+        names,
+        facts,
+        contexts,
+        orders,
+        heads,
+        declared,
+        n,
+        &mut numbers,
+        &mut inner,
+        d,
+    )
+}

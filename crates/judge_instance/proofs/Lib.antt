@@ -1,0 +1,14 @@
+pub mod Bringing
+pub mod Field
+pub mod Implied
+pub mod Linking
+pub mod Chaining
+pub mod Brought
+pub mod Covering
+pub mod Holding
+pub mod Levels
+pub mod LevelLaws
+pub mod LevelCases
+pub mod Deciding
+pub mod Advances
+pub mod FieldJudged

@@ -1,0 +1,64 @@
+-- What bringing leaves: the arrays with the field added, the forms of what it brought, and the answer.
+use mathlib.Core.Bool.{Bool, cond}
+use mathlib.Core.List.{List}
+use mathlib.Core.Path.{_≡_}
+use Prim.Native.Nat.{ℕ, _+_, _*_, _≤_, _<_}
+use lib.ListN.{getD, length}
+use Rattle.context.specs.Lookup.{instanceAmong}
+use Rattle.context.specs.Store.{Store, afterDefinitions, codesOf, contextSlot, orderOf, orderSlot}
+use Rattle.context.specs.declared.Counts.{Counts}
+use Rattle.chains.specs.Results.{BroughtForms}
+use Rattle.entering.specs.Substitutes.{around}
+use Rattle.instancing.specs.Bringing.{instancing}
+use Rattle.judge_plain.specs.Causes.{judged, refusal}
+use Rattle.judge_plain.specs.declared.Judged.{Judged}
+use Rattle.judge_plain.specs.declared.Phase.{Phase}
+use Rattle.judge_plain.specs.declared.Phase.the-variants.{Inside}
+use Rattle.levels.specs.Tables.{tableWords}
+use Rattle.limits.specs.Limits.{codeCount, contextLength, contextsLength, factsLength, fileBytes, headsLength, maxArity, maxDeclarations, maxDefinitions, maxFields, maxModules, ordersLength}
+use Rattle.standing.specs.Shown.{ownerShift}
+use Rattle.standing.specs.Standing.{itselves}
+use Rattle.judge_instance.specs.Levels.{LevelsJudged}
+
+-- 15 if one of the definitions brought has level 4, 16 if the module instanced has a named instance; else n definitions are added
+abbrev pub broughtAnswer : Bool → Bool → Phase → Counts → ℕ → Judged
+broughtAnswer bad named phase c n = cond bad (refusal 15 phase c) (cond named (refusal 16 phase c) (judged 0 Inside (afterDefinitions n c)))
+
+pub record FieldBrought (file refs : List ℕ) (v v′ : Store) (c : Counts) (phase : Phase) (name p q count at : ℕ) (words words′ declared : List ℕ) (r : Judged)
+    : Type 0 where
+  pub bad : Bool
+  pub stored : v′ ≡ instancing c name p q at (count + ownerShift * c .modules) v
+  pub forms : BroughtForms file refs v′ declared (c .declarations) (c .definitions) (getD (v .heads) (orderSlot q) 0) words words′ bad
+  pub answer : r ≡ broughtAnswer bad (instanceAmong (v .facts) (codesOf v q)) phase c (getD (v .heads) (orderSlot q) 0)
+
+-- what bringing asks of the arrays: their sizes, and room for what is brought
+pub record Bringable (names facts contexts orders heads words : List ℕ) (c : Counts) (p q at : ℕ) : Type 0 where
+  pub names-size : length names ≡ codeCount
+  pub facts-size : length facts ≡ factsLength
+  pub contexts-size : length contexts ≡ contextsLength
+  pub orders-size : length orders ≡ ordersLength
+  pub heads-size : length heads ≡ headsLength
+  pub words-size : length words ≡ tableWords
+  pub modules : c .modules ≤ maxModules
+  pub earlier : q < c .modules
+  pub fields : c .fields < maxFields
+  pub declarations : c .declarations ≤ maxDeclarations
+  pub params : p ≤ maxArity
+  pub inside : at ≤ fileBytes
+  pub definitions : c .definitions + getD heads (orderSlot q) 0 ≤ maxDefinitions
+  pub context-room : getD heads (contextSlot (c .modules)) 0 + getD heads (orderSlot q) 0 < contextLength
+  pub order-room : getD heads (orderSlot (c .modules)) 0 + getD heads (orderSlot q) 0 ≤ maxDefinitions
+
+-- the answer, the counts after the field being given
+unfoldable pub answerBrought : Bool → Bool → Phase → Counts → Counts → Judged
+answerBrought bad named phase c d = cond bad (refusal 15 phase c) (cond named (refusal 16 phase c) (judged 0 Inside d))
+
+-- what stands for the declarations is judged, and if it is lawful the field is brought
+pub record FieldLawful (file refs : List ℕ) (v v′ : Store) (c : Counts) (phase : Phase) (name p q count at : ℕ) (words words′ declared : List ℕ) (r : Judged)
+    : Type 0 where
+  pub size : length words′ ≡ length words
+  pub cause : ℕ
+  pub levels : LevelsJudged (around file refs itselves words (v .names) (v .facts) (v .contexts) (v .heads))
+      (record { outer = 0; params = p; owner = c .modules; start = at; count = count }) (codesOf v q) (orderOf (v .orders) (v .heads) q) cause
+  pub unlawful : (cause ≡ 0 → ⊥) → r ≡ refusal cause phase c
+  pub lawful : cause ≡ 0 → FieldBrought file refs v v′ c phase name p q count at words words′ declared r
