@@ -1,0 +1,70 @@
+use mathlib.Core.Path.{_≡_, refl}
+use Prim.Native.Nat.{_-_, _≤_}
+use lib.ListN.{length}
+use Rattle.rules.specs.Run.{overwrite}
+use Rattle.checker.specs.Cards.{cardsOf}
+use Rattle.checker.proofs.Cards.{card-turn, cards-done}
+use borrow.Author.Needs.{needs}
+use Rattle.checker.proofs.memory.fill_cards.Statement.{statement}
+use Rattle.checker.proofs.memory.fill_cards.Tie as tie
+
+abbrev Inv-loop : tie.InvT-loop
+Inv-loop facts words n cards₀ g₀ cards g = (cards ≡ overwrite (cardsOf facts words g) cards₀) × (g ≤ n) × (length cards ≡ length cards₀)
+
+abbrev μ-loop : tie.MeasureT-loop
+μ-loop facts words n cards₀ g₀ cards g = n - g
+
+loop-holds : tie.Need-loop-holds Inv-loop μ-loop
+loop-holds c = (refl, search needs, refl)
+
+load-requires : tie.Need-load-requires Inv-loop μ-loop
+load-requires c κs = search needs
+
+mul-number-at : tie.Need-mul-number-at Inv-loop μ-loop
+mul-number-at c = search needs
+
+number-at-requires : tie.Need-number-at-requires Inv-loop μ-loop
+number-at-requires c κs = search needs
+
+within-requires : tie.Need-within-requires Inv-loop μ-loop
+within-requires c κs = search needs
+
+mul-fill : tie.Need-mul-fill Inv-loop μ-loop
+mul-fill c = search needs
+
+fill-requires : tie.Need-fill-requires Inv-loop μ-loop
+fill-requires c κs = search needs
+
+add-g : tie.Need-add-g Inv-loop μ-loop
+add-g c = search needs
+
+loop-less : tie.Need-loop-less Inv-loop μ-loop
+loop-less c = search needs
+
+loop-again : tie.Need-loop-again Inv-loop μ-loop
+loop-again c = (search card-turn, search needs, search needs)
+
+same-length : tie.Need-same-length Inv-loop μ-loop
+same-length c = search needs
+
+returns : tie.Need-returns Inv-loop μ-loop
+returns c = search cards-done
+
+pub fill-cards-spec : {M : Type 1} → statement M
+fill-cards-spec =
+    tie.close
+    (tie.spec
+    Inv-loop
+    μ-loop
+    loop-holds
+    load-requires
+    mul-number-at
+    number-at-requires
+    within-requires
+    mul-fill
+    fill-requires
+    add-g
+    loop-less
+    loop-again
+    same-length
+    returns)

@@ -1,0 +1,5 @@
+pub mod Cards
+pub mod Packed
+pub mod Reply
+pub mod Settles
+pub mod Turned

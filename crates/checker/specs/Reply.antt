@@ -1,0 +1,23 @@
+-- "The answer is an enum; a definition gives its number and values."
+use mathlib.Core.List.{List}
+use Prim.Native.Nat.{ℕ}
+use Rattle.judge_plain.specs.declared.Phase.{Phase}
+use Rattle.judge_plain.specs.declared.Phase.the-variants.{Begun, Inside, Outside}
+use Rattle.rules.specs.Run.{Answer, Outcome, refusal, result}
+use Rattle.checker.specs.declared.Reply.{Reply}
+use Rattle.checker.specs.declared.Reply.the-variants.{Accepted, Refused}
+
+-- "A check replies with the number of definitions."
+abbrev pub outcomeOf : Reply → Outcome ℕ
+outcomeOf (Accepted n) = result n
+outcomeOf (Refused c p) = refusal c p
+
+-- a reply, and the lent card memory after it
+abbrev pub answerOf : Reply → List ℕ → Answer ℕ
+answerOf r memory = record { reply = outcomeOf r; memory = memory }
+
+-- at the end of a file of n definitions: "file ends inside a module", at "the number of fields"
+abbrev pub endReply : Phase → ℕ → ℕ → Reply
+endReply Outside n p = Accepted n
+endReply Begun n p = Refused 4 p
+endReply Inside n p = Refused 4 p

@@ -1,0 +1,48 @@
+// The lent card memory after a check.
+ghost use mathlib.Core.Path.{_≡_};
+ghost use Prim.Native.Nat.{_+_, _*_, _≤_, _<_};
+ghost use lib.ListN.{length, replicate};
+ghost use Rattle.limits.specs.Limits.{cardMemoryBytes, factsLength, maxArity, maxDefinitions};
+ghost use Rattle.levels.specs.Tables.{tableWords};
+ghost use Rattle.rules.specs.Run.{overwrite};
+ghost use Rattle.checker.specs.Cards.{cardsOf};
+ghost use mathlib.Core.Bool.{cond};
+ghost use lib.Dec.{ltb};
+use context::lists::number_at;
+use forms::card::fill;
+use forms::table::load;
+use limits::Limits;
+
+// "set the first 32,000 bytes to 0; bytes beyond stay"
+pub fn clear_cards(cards: &mut [u8])
+    requires { ⌜ cardMemoryBytes ≤ length (now cards) ⌝ }
+    ensures { λ r. ⌜ now (cards .exit) ≡ overwrite (replicate cardMemoryBytes 0) (now (cards .entry)) ⌝ }
+{
+    let mut i: usize = 0;
+    while i < Limits::CARD_MEMORY_BYTES {
+        cards[i] = 0;
+        i += 1;
+    }
+}
+
+// An argument count of a definition; none has more than the limit.
+fn within(n: u16) -> usize
+    ensures { λ r. ⌜ (r ≡ cond (ltb maxArity n) 0 n) × (r ≤ maxArity) ⌝ }
+{
+    let k = n as usize;
+    if Limits::ARITY < k { 0 } else { k }
+}
+
+// The card of each of the first n definitions, from the table of forms.
+pub fn fill_cards(facts: &[u16], words: &[u64], n: usize, cards: &mut [u8])
+    requires { ⌜ (length (now facts) ≡ factsLength) × (length (now words) ≡ tableWords) × (n ≤ maxDefinitions) × (cardMemoryBytes ≤ length (now cards)) ⌝ }
+    ensures { λ r. ⌜ now (cards .exit) ≡ overwrite (cardsOf (now (facts .entry)) (now (words .entry)) n) (now (cards .entry)) ⌝ }
+{
+    let mut g: usize = 0;
+    while g < n {
+        let f = load(words, g);
+        let k = within(number_at(facts, Limits::COLUMNS * g));
+        fill(f, k, cards, Limits::CARD_BYTES * g);
+        g += 1;
+    }
+}
