@@ -1,0 +1,61 @@
+-- The listing of what the arrays hold.
+use mathlib.Core.Bool.{cond}
+use mathlib.Core.List.{List, [], _∷_, _++_, map}
+use Prim.Native.Nat.{ℕ, zero, suc, _+_, _*_}
+use lib.Dec.{ltb}
+use lib.ListN.{getD}
+use Rattle.limits.specs.Limits.{maxArity, maxDefinitions}
+use Rattle.theory.specs.Card.{usedEntries}
+use Rattle.rules.specs.Listing.{decimal, line}
+use Rattle.forms.specs.Forms.{levelAt}
+use Rattle.forms.specs.Tables.{formAt}
+use Rattle.context.specs.Store.{kindAt, viaAt}
+
+-- the parameter count of definition g; none has more than the limit
+abbrev pub arityAt : List ℕ → ℕ → ℕ
+arityAt facts g = cond (ltb maxArity (kindAt facts g)) 0 (kindAt facts g)
+
+-- a level as a digit
+abbrev pub digit : ℕ → ℕ
+digit l = 48 + l
+
+-- the used entries of a form's card over n parameters
+abbrev pub entries : ℕ → (List ℕ → ℕ) → List ℕ
+entries n level = map digit (usedEntries n level)
+
+-- a number and the byte after it
+abbrev pub number : ℕ → ℕ → List ℕ
+number k after = decimal k ++ (after ∷ [])
+
+-- "number, instance name or 0, name, parameter count, used entries"
+unfoldable pub lineAt : List ℕ → List ℕ → List ℕ → ℕ → List ℕ
+lineAt names facts words g =
+    line (decimal g ∷ decimal (viaAt facts g) ∷ decimal (getD names g 0) ∷ decimal (arityAt facts g) ∷ entries (arityAt facts g) (levelAt (formAt words g)) ∷ [])
+
+-- of the first n definitions
+abbrev pub linesOf : List ℕ → List ℕ → List ℕ → ℕ → List ℕ
+linesOf names facts words zero = []
+linesOf names facts words (suc n) = linesOf names facts words n ++ lineAt names facts words n
+
+-- "First line: `ok`, number of definitions."
+abbrev pub heading : ℕ → List ℕ
+heading n = line ((111 ∷ 107 ∷ []) ∷ decimal n ∷ [])
+
+abbrev pub textOf : List ℕ → List ℕ → List ℕ → ℕ → List ℕ
+textOf names facts words n = heading n ++ linesOf names facts words n
+
+-- the word of a refusal and the space after it
+abbrev pub refusedWord : List ℕ
+refusedWord = 114 ∷ 101 ∷ 102 ∷ 117 ∷ 115 ∷ 101 ∷ 100 ∷ 32 ∷ []
+
+-- "A refusal prints one line: `refused`, number, place."
+abbrev pub refusalText : ℕ → ℕ → List ℕ
+refusalText c p = line ((114 ∷ 101 ∷ 102 ∷ 117 ∷ 115 ∷ 101 ∷ 100 ∷ []) ∷ decimal c ∷ decimal p ∷ [])
+
+-- room for the longest line: four numbers of five digits, each with the byte after it, 125 entries and the line feed
+abbrev pub lineRoom : ℕ
+lineRoom = 150
+
+-- and for the longest text: the heading, and a line for each definition
+abbrev pub textRoom : ℕ
+textRoom = 9 + lineRoom * maxDefinitions

@@ -1,0 +1,131 @@
+// The listing of the definitions that the arrays hold, and the line of a refusal.
+ghost use mathlib.Core.Bool.{cond};
+ghost use mathlib.Core.List.{_++_};
+ghost use mathlib.Core.Path.{_≡_};
+ghost use Prim.Native.Nat.{_+_, _≤_, _<_};
+ghost use lib.Dec.{ltb};
+ghost use lib.ListN.{getD, length};
+ghost use Rattle.limits.specs.Limits.{maxArity, maxDefinitions};
+ghost use Rattle.context.specs.Store.{viaAt};
+ghost use Rattle.levels.specs.Tables.{tableWords};
+ghost use Rattle.rules.specs.Run.{overwrite};
+ghost use Rattle.lines.specs.Text.{heading, lineAt, lineRoom, linesOf, number, refusalText, refusedWord, textOf, textRoom};
+ghost use Rattle.lines.specs.Writes.{Writes};
+use crate::entries::put_entries;
+use crate::numbers::put_byte;
+use crate::numbers::put_number;
+use context::lists::number_at;
+use forms::table::load;
+use limits::Limits;
+
+const SPACE: u8 = 32;
+
+const LINE_FEED: u8 = 10;
+
+// A parameter count; no definition has more than the limit.
+fn within(n: u16) -> usize
+    ensures { λ r. ⌜ (r ≡ cond (ltb maxArity n) 0 n) × (r ≤ maxArity) ⌝ }
+{
+    let k = n as usize;
+    if Limits::ARITY < k { 0 } else { k }
+}
+
+// A definition's number, its instance's name or 0, its name.
+fn put_names(names: &[u16], facts: &[u16], g: usize, out: &mut [u8], at: usize) -> usize
+    requires { ⌜ (g < maxDefinitions) × (at + 18 ≤ length (now out)) ⌝ }
+    ensures { λ r. ⌜ Writes (now (out .entry)) (now (out .exit)) at (number g 32 ++ number (viaAt (now (facts .entry)) g) 32 ++ number (getD (now (names .entry)) g 0) 32) r × (r ≤ at + 18) ⌝ }
+{
+    let via = number_at(facts, Limits::COLUMNS * g + 3) as usize;
+    let name = number_at(names, g) as usize;
+    let next = put_number(out, at, g, SPACE);
+    let more = put_number(out, next, via, SPACE);
+    put_number(out, more, name, SPACE)
+}
+
+// The line of definition g.
+fn put_line(
+    names: &[u16],
+    facts: &[u16],
+    words: &[u64],
+    g: usize,
+    out: &mut [u8],
+    at: usize,
+) -> usize
+    requires { ⌜ (length (now words) ≡ tableWords) × (g < maxDefinitions) × (at + lineRoom ≤ length (now out)) ⌝ }
+    ensures { λ r. ⌜ Writes (now (out .entry)) (now (out .exit)) at (lineAt (now (names .entry)) (now (facts .entry)) (now (words .entry)) g) r × (r ≤ at + lineRoom) ⌝ }
+{
+    let k = within(number_at(facts, Limits::COLUMNS * g));
+    let f = load(words, g);
+    let named = put_names(names, facts, g, out, at);
+    let counted = put_number(out, named, k, SPACE);
+    let filled = put_entries(f, k, out, counted);
+    put_byte(out, filled, LINE_FEED)
+}
+
+// The first line of n definitions.
+fn put_heading(n: usize, out: &mut [u8]) -> usize
+    requires { ⌜ 9 ≤ length (now out) ⌝ }
+    ensures { λ r. ⌜ Writes (now (out .entry)) (now (out .exit)) 0 (heading n) r × (r ≤ 9) ⌝ }
+{
+    let o = put_byte(out, 0, 111);
+    let k = put_byte(out, o, 107);
+    let next = put_byte(out, k, SPACE);
+    put_number(out, next, n, LINE_FEED)
+}
+
+// The lines of the first n definitions, from place at on.
+fn put_lines(
+    names: &[u16],
+    facts: &[u16],
+    words: &[u64],
+    n: usize,
+    out: &mut [u8],
+    at: usize,
+) -> usize
+    requires { ⌜ (length (now words) ≡ tableWords) × (n ≤ maxDefinitions) × (at ≤ 9) × (textRoom ≤ length (now out)) ⌝ }
+    ensures { λ r. ⌜ Writes (now (out .entry)) (now (out .exit)) at (linesOf (now (names .entry)) (now (facts .entry)) (now (words .entry)) n) r × (r ≤ textRoom) ⌝ }
+{
+    let mut next = at;
+    let mut g: usize = 0;
+    while g < n {
+        next = put_line(names, facts, words, g, out, next);
+        g += 1;
+    }
+    next
+}
+
+// The listing of n definitions at the front of out; every other byte stays.
+pub fn write_listing(names: &[u16], facts: &[u16], words: &[u64], n: usize, out: &mut [u8]) -> usize
+    requires { ⌜ (length (now words) ≡ tableWords) × (n ≤ maxDefinitions) × (textRoom ≤ length (now out)) ⌝ }
+    ensures { λ r. ⌜ (now (out .exit) ≡ overwrite (textOf (now (names .entry)) (now (facts .entry)) (now (words .entry)) n) (now (out .entry))) × (r ≡ length (textOf (now (names .entry)) (now (facts .entry)) (now (words .entry)) n)) × (r ≤ textRoom) ⌝ }
+{
+    let at = put_heading(n, out);
+    put_lines(names, facts, words, n, out, at)
+}
+
+// The word of a refusal.
+fn put_refused(out: &mut [u8]) -> usize
+    requires { ⌜ 8 ≤ length (now out) ⌝ }
+    ensures { λ r. ⌜ Writes (now (out .entry)) (now (out .exit)) 0 refusedWord r × (r ≤ 8) ⌝ }
+{
+    out[0] = 114;
+    out[1] = 101;
+    out[2] = 102;
+    out[3] = 117;
+    out[4] = 115;
+    out[5] = 101;
+    out[6] = 100;
+    out[7] = SPACE;
+    8
+}
+
+// The line of a refusal at the front of out; every other byte stays.
+pub fn write_refusal(cause: u8, place: usize, out: &mut [u8]) -> usize
+    requires { ⌜ textRoom ≤ length (now out) ⌝ }
+    ensures { λ r. ⌜ (now (out .exit) ≡ overwrite (refusalText cause place) (now (out .entry))) × (r ≡ length (refusalText cause place)) × (r ≤ textRoom) ⌝ }
+{
+    let number = cause as usize;
+    let next = put_refused(out);
+    let last = put_number(out, next, number, SPACE);
+    put_number(out, last, place, LINE_FEED)
+}
