@@ -16,12 +16,12 @@ use Rattle.context.proofs.Adds.{empty}
 use Rattle.context.specs.Store.{Store, store}
 use Rattle.context.specs.declared.Counts.{Counts}
 use Rattle.resolve.proofs.Numbers.{declarationsOf}
-use Rattle.checker.specs.Cards.{cardsOf}
+use Rattle.cards.specs.Cards.{cardsOf}
 use Rattle.checker.specs.Reply.{answerOf, outcomeOf}
 use Rattle.checker.specs.Settles.{Few, Leaves, Reaches, Settles, wrongSize}
-use Rattle.checker.proofs.Shown.{cards-shown}
-use Rattle.checker.specs.declared.Reply.{Reply}
 use Rattle.checker.specs.declared.Reply.the-variants.{Accepted, Refused}
+use Rattle.checker.specs.declared.Reply.{Reply}
+use Rattle.cards.proofs.Shown.{cards-shown}
 
 -- what a check leaves, by its outcome
 abbrev left : Outcome State → List ℕ → Answer ℕ

@@ -1,10 +1,7 @@
-pub mod Cards
 pub mod Outset
-pub mod Shown
 pub mod Answers
 pub mod Steps
 pub mod Turns
 pub mod Replies
 pub mod Rounds
-pub mod Judges
 pub mod Packing

@@ -12,8 +12,8 @@ use Rattle.laws.proofs.Within.{within-start}
 use Rattle.worlds.proofs.Fields.{worlds-start}
 use Rattle.context.proofs.Adds.{empty, hold-start}
 use Rattle.context.specs.Store.{noCounts}
-use Rattle.levels.specs.Tables.{tableWords}
 use Rattle.resolve.proofs.Numbers.{no-declarations}
+use Rattle.levels.specs.Tables.{tableWords}
 use Rattle.judge_plain.proofs.Premises.{fresh-start}
 use Rattle.judge_plain.specs.declared.Phase.the-variants.{Outside}
 use Rattle.standing.specs.Standing.{Standing}

@@ -13,8 +13,8 @@ use Rattle.laws.proofs.Within.{within-file}
 use Rattle.checker.specs.Packed.{packed}
 use Rattle.checker.specs.Reply.{answerOf, outcomeOf}
 use Rattle.checker.specs.Settles.{Small}
-use Rattle.checker.specs.declared.Reply.{Reply}
 use Rattle.checker.specs.declared.Reply.the-variants.{Accepted, Refused}
+use Rattle.checker.specs.declared.Reply.{Reply}
 
 replied : (file memory : List ℕ) (r : Reply) → outcomeOf r ≡ check file memory .reply → Small r
 replied file memory (Accepted n) e =

@@ -1,8 +1,8 @@
 -- The reply at the end of a file, by the phase.
 use mathlib.Core.Path.{_≡_, ap, sym}
 use Prim.Native.Nat.{ℕ}
-use Rattle.judge_plain.specs.declared.Phase.{Phase}
 use Rattle.judge_plain.specs.declared.Phase.the-variants.{Begun, Inside, Outside}
+use Rattle.judge_plain.specs.declared.Phase.{Phase}
 use Rattle.checker.specs.Reply.{endReply}
 use Rattle.checker.specs.declared.Reply.the-variants.{Accepted, Refused}
 

@@ -15,8 +15,8 @@ use Rattle.fields.specs.Layout.{isCut, isEnd}
 use Rattle.fields.specs.Payload.{allNamed, assumePart, constantPart, definitionPart, endPart, extendsPart, instancePart, instanceRest, lawfulHead, modulePart, partsOf, theoremPart, variablePart}
 use Rattle.fields.specs.Substitution.{part, substitutionsFit}
 use Rattle.fields.specs.declared.Cursor.{Cursor}
-use Rattle.fields.specs.declared.Parts.{Parts}
 use Rattle.fields.specs.declared.Parts.the-variants.{Module, Extends, Constant, Variable, Definition, Instance, EndModule, Assume, Theorem, Cut, EndOfFile}
+use Rattle.fields.specs.declared.Parts.{Parts}
 use Rattle.fields.specs.declared.Step.{Step}
 use Rattle.agree.specs.Parts.{IsField, Reads}
 use Rattle.standing.specs.Standing.{Filled}

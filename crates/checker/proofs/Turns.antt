@@ -10,23 +10,24 @@ use lib.Dec.{eqb}
 use lib.ListN.{drop, getD, length}
 use lib.Seq.{drop-cons}
 use Rattle.limits.specs.Limits.{fileBytes, maxDeclarations}
-use Rattle.tokens.proofs.Writing.{Bytes}
-use Rattle.fields.specs.Cursor.{placeOf, stepAt}
-use Rattle.fields.specs.Layout.{isCut, isEnd}
-use Rattle.fields.specs.declared.Cursor.{Cursor}
-use Rattle.fields.specs.declared.Step.{Step}
+use Rattle.theory.proofs.Lists.{never}
 use Rattle.rules.specs.Add.{add}
 use Rattle.rules.specs.Bytes.{cut, got}
 use Rattle.rules.specs.Field.{Field, assume, begin-module, declare-constant, declare-variable, definition, end-module, extends, field, instance, theorem, writeField}
 use Rattle.rules.specs.Judge.{judge}
 use Rattle.rules.specs.Run.{endIn, judgeFile, refusal}
-use Rattle.rules.specs.State.{State, start}
 use Rattle.rules.specs.State as rules
+use Rattle.rules.specs.State.{State, start}
 use Rattle.laws.proofs.Fields.{field-back, field-some}
 use Rattle.laws.proofs.Running.{run, run-cut, run-end, run-next, run-refused}
+use Rattle.worlds.specs.Rows.{rowsAfter}
+use Rattle.tokens.proofs.Writing.{Bytes}
+use Rattle.fields.specs.Cursor.{placeOf, stepAt}
+use Rattle.fields.specs.Layout.{isCut, isEnd}
+use Rattle.fields.specs.declared.Cursor.{Cursor}
+use Rattle.fields.specs.declared.Step.{Step}
 use Rattle.agree.proofs.Fields.{reads}
 use Rattle.agree.specs.Parts.{IsField}
-use Rattle.worlds.specs.Rows.{rowsAfter}
 use Rattle.context.proofs.Adds.{empty}
 use Rattle.context.specs.Store.{Store, noCounts}
 use Rattle.context.specs.declared.Counts.{Counts}
@@ -34,16 +35,15 @@ use Rattle.levels.specs.Tables.{tableWords}
 use Rattle.judge_plain.proofs.Premises.{no-cause-left}
 use Rattle.judge_plain.specs.Judges.{causeNumber, phaseOf}
 use Rattle.judge_plain.specs.declared.Judged.{Judged}
-use Rattle.judge_plain.specs.declared.Phase.{Phase}
 use Rattle.judge_plain.specs.declared.Phase.the-variants.{Begun, Inside, Outside}
+use Rattle.judge_plain.specs.declared.Phase.{Phase}
 use Rattle.standing.specs.Standing.{AtField, Judging, Standing, Underway, underway}
 use Rattle.checker.specs.Reply.{endReply}
 use Rattle.checker.specs.Settles.{Midway, Settles, midway}
 use Rattle.checker.specs.Turned.{Turned, stopped, turnOf}
-use Rattle.checker.specs.declared.Reply.{Reply}
 use Rattle.checker.specs.declared.Reply.the-variants.{Refused}
+use Rattle.checker.specs.declared.Reply.{Reply}
 use Rattle.checker.specs.declared.judging.Turn.{Turn}
-use Rattle.theory.proofs.Lists.{never}
 use Rattle.checker.proofs.Outset.{standing-start}
 use Rattle.checker.proofs.Steps.{is-cut, is-end, is-field, stepped}
 

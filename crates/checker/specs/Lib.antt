@@ -1,4 +1,3 @@
-pub mod Cards
 pub mod Packed
 pub mod Reply
 pub mod Settles

@@ -1,11 +1,11 @@
 -- "The answer is an enum; a definition gives its number and values."
 use mathlib.Core.List.{List}
 use Prim.Native.Nat.{ℕ}
-use Rattle.judge_plain.specs.declared.Phase.{Phase}
-use Rattle.judge_plain.specs.declared.Phase.the-variants.{Begun, Inside, Outside}
 use Rattle.rules.specs.Run.{Answer, Outcome, refusal, result}
-use Rattle.checker.specs.declared.Reply.{Reply}
+use Rattle.judge_plain.specs.declared.Phase.the-variants.{Begun, Inside, Outside}
+use Rattle.judge_plain.specs.declared.Phase.{Phase}
 use Rattle.checker.specs.declared.Reply.the-variants.{Accepted, Refused}
+use Rattle.checker.specs.declared.Reply.{Reply}
 
 -- "A check replies with the number of definitions."
 abbrev pub outcomeOf : Reply → Outcome ℕ

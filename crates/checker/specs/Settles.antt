@@ -6,22 +6,22 @@ use Prim.Native.Nat.{ℕ, _≤_}
 use lib.Dec.{ltb}
 use lib.ListN.{drop, length, replicate}
 use Rattle.limits.specs.Limits.{cardMemoryBytes, fileBytes, maxDefinitions}
-use Rattle.fields.specs.Cursor.{placeOf}
-use Rattle.fields.specs.declared.Cursor.{Cursor}
 use Rattle.rules.specs.Bytes.{isEmpty}
 use Rattle.rules.specs.Field.{Field}
 use Rattle.rules.specs.Run.{judgeFile, overwrite, refusal, result}
 use Rattle.rules.specs.State.{State}
 use Rattle.laws.proofs.Running.{run}
 use Rattle.worlds.specs.Rows.{Row}
+use Rattle.fields.specs.Cursor.{placeOf}
+use Rattle.fields.specs.declared.Cursor.{Cursor}
 use Rattle.context.specs.Store.{Store}
 use Rattle.context.specs.declared.Counts.{Counts}
-use Rattle.judge_plain.specs.declared.Phase.{Phase}
 use Rattle.judge_plain.specs.declared.Phase.the-variants.{Outside}
+use Rattle.judge_plain.specs.declared.Phase.{Phase}
 use Rattle.standing.specs.Standing.{Standing}
-use Rattle.checker.specs.Cards.{cardsOf}
-use Rattle.checker.specs.declared.Reply.{Reply}
+use Rattle.cards.specs.Cards.{cardsOf}
 use Rattle.checker.specs.declared.Reply.the-variants.{Accepted, Refused}
+use Rattle.checker.specs.declared.Reply.{Reply}
 
 -- the fields lead to a state of n definitions, which the arrays show
 pub record Reaches (file : List ℕ) (v : Store) (c : Counts) (refs words declared : List ℕ) (n : ℕ) : Type 0 where

@@ -13,8 +13,8 @@ use Rattle.context.specs.declared.Counts.{Counts}
 use Rattle.judge_plain.specs.declared.Judged.{Judged}
 use Rattle.judge_plain.specs.declared.Phase.{Phase}
 use Rattle.checker.specs.Settles.{Midway, Settles}
-use Rattle.checker.specs.declared.Reply.{Reply}
 use Rattle.checker.specs.declared.Reply.the-variants.{Refused}
+use Rattle.checker.specs.declared.Reply.{Reply}
 use Rattle.checker.specs.declared.judging.Turn.{Turn}
 
 abbrev pub stopped : Reply → Cursor → Phase → Counts → Turn

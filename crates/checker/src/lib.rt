@@ -1,8 +1,6 @@
 // The check over a whole file: paper 01's public operation.
-mod dispatch;
 pub mod exports;
 pub mod judging;
-mod memory;
 
 ghost use mathlib.Core.Bool.{false, true};
 ghost use mathlib.Core.Path.{_≡_};
@@ -17,10 +15,10 @@ ghost use Rattle.rules.specs.Run.{check};
 ghost use Rattle.tokens.proofs.Writing.{Bytes};
 ghost use Rattle.checker.specs.Reply.{answerOf};
 ghost use Rattle.checker.specs.Settles.{Few, Leaves, wrongSize};
+use cards::clear_cards;
+use cards::fill_cards;
 use judging::judge_fields;
 use limits::Limits;
-use memory::clear_cards;
-use memory::fill_cards;
 
 // What a check replies: the number of definitions; or a refusal's number and place.
 pub enum Reply {

@@ -1,5 +1,5 @@
-use Rattle.context.specs.Store.{store}
 use mathlib.Core.Path.{_∙_}
+use Rattle.context.specs.Store.{store}
 use Rattle.checker.proofs.Answers.{facts-size, in-all, settled-few}
 use borrow.Author.Needs.{needs}
 use Rattle.checker.proofs.check_in.Statement.{statement}

@@ -1,5 +1,5 @@
-use Rattle.checker.proofs.Answers.{cleared-in, few-in, filled-in}
 use mathlib.Core.Path.{sym}
+use Rattle.checker.proofs.Answers.{cleared-in, few-in, filled-in}
 use borrow.Author.Needs.{needs}
 use Rattle.checker.proofs.settle.Statement.{statement}
 use Rattle.checker.proofs.settle.Tie as tie

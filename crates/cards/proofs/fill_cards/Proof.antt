@@ -2,11 +2,11 @@ use mathlib.Core.Path.{_≡_, refl}
 use Prim.Native.Nat.{_-_, _≤_}
 use lib.ListN.{length}
 use Rattle.rules.specs.Run.{overwrite}
-use Rattle.checker.specs.Cards.{cardsOf}
-use Rattle.checker.proofs.Cards.{card-turn, cards-done}
+use Rattle.cards.specs.Cards.{cardsOf}
+use Rattle.cards.proofs.Cards.{card-turn, cards-done}
 use borrow.Author.Needs.{needs}
-use Rattle.checker.proofs.memory.fill_cards.Statement.{statement}
-use Rattle.checker.proofs.memory.fill_cards.Tie as tie
+use Rattle.cards.proofs.fill_cards.Statement.{statement}
+use Rattle.cards.proofs.fill_cards.Tie as tie
 
 abbrev Inv-loop : tie.InvT-loop
 Inv-loop facts words n cards₀ g₀ cards g = (cards ≡ overwrite (cardsOf facts words g) cards₀) × (g ≤ n) × (length cards ≡ length cards₀)

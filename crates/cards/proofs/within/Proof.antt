@@ -1,7 +1,7 @@
 use borrow.Author.Tests.{le-ltb, lt-ltb}
 use borrow.Author.Needs.{needs}
-use Rattle.checker.proofs.memory.within.Statement.{statement}
-use Rattle.checker.proofs.memory.within.Tie as tie
+use Rattle.cards.proofs.within.Statement.{statement}
+use Rattle.cards.proofs.within.Tie as tie
 
 returns : tie.Need-returns
 returns c = (search (needs, lt-ltb), search needs)

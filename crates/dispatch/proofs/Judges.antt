@@ -5,8 +5,8 @@ use Prim.Native.Nat.{ℕ, _+_, _-_, _*_, _≤_, _<_}
 use lib.ListN.{length}
 use Rattle.limits.specs.Limits.{codeCount, fileBytes, headsLength, maxDeclarations, maxDefinitions, maxFields, maxModules}
 use Rattle.tokens.specs.Token.{numberAt}
-use Rattle.fields.specs.declared.Parts.{Parts}
 use Rattle.fields.specs.declared.Parts.the-variants.{Module, Extends, Definition, Instance, EndModule, Cut, EndOfFile}
+use Rattle.fields.specs.declared.Parts.{Parts}
 use Rattle.agree.specs.Parts.{namesAt}
 use Rattle.context.specs.Store.{Store, afterEnd, afterField, headed, store}
 use Rattle.context.specs.declared.Counts.{Counts}
@@ -14,11 +14,11 @@ use Rattle.levels.specs.Tables.{tableWords}
 use Rattle.judge_plain.specs.Causes.{answer, endCause, kept, moduleCause}
 use Rattle.judge_plain.specs.Extending.{Extending, Ready}
 use Rattle.judge_plain.specs.declared.Judged.{Judged}
-use Rattle.judge_plain.specs.declared.Phase.{Phase}
 use Rattle.judge_plain.specs.declared.Phase.the-variants.{Begun, Outside}
-use Rattle.standing.specs.Standing.{Judging, Roomy, Underway}
+use Rattle.judge_plain.specs.declared.Phase.{Phase}
 use Rattle.standing.proofs.Asking.{definition-inside, end-asks, extends-inside, extends-ready, no-cut, no-end, underway-declared, underway-roomy, underway-words}
 use Rattle.standing.proofs.Plain.{end-judging, extends-judging, module-judging}
+use Rattle.standing.specs.Standing.{Judging, Roomy, Underway}
 
 module _ (file names facts contexts orders heads : List ℕ) (c : Counts) (p : Phase) (refs words declared : List ℕ) (x : Parts) where
   abbrev Now : Type 0

@@ -1,7 +1,7 @@
-use Rattle.checker.proofs.Judges.{by-any-declared, by-any-file, by-any-orders, by-cut, by-end, by-end-of-file, by-extends, by-module, by-parts, declaration-asks, definition-asks, end-of-asks, extends-asks, formula-asks, instance-asks, module-asks}
+use Rattle.dispatch.proofs.Judges.{by-any-declared, by-any-file, by-any-orders, by-cut, by-end, by-end-of-file, by-extends, by-module, by-parts, declaration-asks, definition-asks, end-of-asks, extends-asks, formula-asks, instance-asks, module-asks}
 use borrow.Author.Needs.{needs}
-use Rattle.checker.proofs.dispatch.judge_field.Statement.{statement}
-use Rattle.checker.proofs.dispatch.judge_field.Tie as tie
+use Rattle.dispatch.proofs.judge_field.Statement.{statement}
+use Rattle.dispatch.proofs.judge_field.Tie as tie
 
 enum-known-parts : tie.Need-enum-known-parts
 enum-known-parts c = search needs

@@ -5,9 +5,9 @@ use Prim.Native.Nat.{ℕ, zero, suc}
 use lib.Dec.{ltb}
 use Rattle.limits.specs.Limits.{maxArity}
 use Rattle.theory.specs.Card.{cardOf}
-use Rattle.context.specs.Store.{kindAt}
 use Rattle.forms.specs.Forms.{levelAt}
 use Rattle.forms.specs.Tables.{formAt}
+use Rattle.context.specs.Store.{kindAt}
 
 -- the parameter count of definition g; none has more than the limit
 abbrev pub arityAt : List ℕ → ℕ → ℕ

@@ -1,23 +1,23 @@
 -- The lent memory, byte after byte set to 0, and card after card filled.
 use borrow.Author.Tests.{ltb-false}
 use mathlib.Core.Bool.{Bool, cond, false, true}
-use lib.Dec.{ltb}
-use Rattle.context.specs.Store.{kindAt}
 use mathlib.Core.List.{List, _++_}
 use mathlib.Core.Path.{_∙_, _≡_, ap, ap₂, refl, sym}
 use Prim.Native.Nat.{ℕ, zero, suc, _+_, _*_, _≤_, _<_}
 use native.Mathlib.Numerals.{add-one}
 use native.Mathlib.Omega.{arith}
+use lib.Dec.{ltb}
 use lib.ListN.{drop, getD, getD-replicate, length, length-append, length-replicate, replicate, set}
 use lib.Seq.{drop-append-add, drop-drop, length-paste, paste, paste-suc, paste-zero, take-all, take-at}
 use Rattle.limits.specs.Limits.{cardBytes, cardMemoryBytes, columnCount, maxArity, maxDefinitions}
-use Rattle.forms.specs.declared.Form.{Form}
+use Rattle.theory.proofs.Cards.{card-length}
 use Rattle.theory.specs.Card.{cardOf}
 use Rattle.rules.specs.Run.{overwrite}
 use Rattle.forms.specs.Forms.{levelAt}
 use Rattle.forms.specs.Tables.{formAt}
-use Rattle.theory.proofs.Cards.{card-length}
-use Rattle.checker.specs.Cards.{arityAt, cardAt, cardsOf}
+use Rattle.forms.specs.declared.Form.{Form}
+use Rattle.context.specs.Store.{kindAt}
+use Rattle.cards.specs.Cards.{arityAt, cardAt, cardsOf}
 
 -- The first i bytes of n are set.
 pub record Cleared (n : ℕ) (before after : List ℕ) (i : ℕ) : Type 0 where

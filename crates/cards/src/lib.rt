@@ -1,11 +1,11 @@
-// The lent card memory after a check.
+// The lent card memory: the cards of the definitions, or zeros.
 ghost use mathlib.Core.Path.{_≡_};
 ghost use Prim.Native.Nat.{_+_, _*_, _≤_, _<_};
 ghost use lib.ListN.{length, replicate};
 ghost use Rattle.limits.specs.Limits.{cardMemoryBytes, factsLength, maxArity, maxDefinitions};
 ghost use Rattle.levels.specs.Tables.{tableWords};
 ghost use Rattle.rules.specs.Run.{overwrite};
-ghost use Rattle.checker.specs.Cards.{cardsOf};
+ghost use Rattle.cards.specs.Cards.{cardsOf};
 ghost use mathlib.Core.Bool.{cond};
 ghost use lib.Dec.{ltb};
 use context::lists::number_at;

@@ -2,10 +2,10 @@ use mathlib.Core.Path.{_≡_, refl}
 use Prim.Native.Nat.{_-_}
 use lib.ListN.{length}
 use Rattle.limits.specs.Limits.{cardMemoryBytes}
-use Rattle.checker.proofs.Cards.{Cleared, clear-start, clear-turn, clear-whole}
+use Rattle.cards.proofs.Cards.{Cleared, clear-start, clear-turn, clear-whole}
 use borrow.Author.Needs.{needs}
-use Rattle.checker.proofs.memory.clear_cards.Statement.{statement}
-use Rattle.checker.proofs.memory.clear_cards.Tie as tie
+use Rattle.cards.proofs.clear_cards.Statement.{statement}
+use Rattle.cards.proofs.clear_cards.Tie as tie
 
 abbrev Inv-loop : tie.InvT-loop
 Inv-loop cards₀ i₀ cards i = Cleared cardMemoryBytes cards₀ cards i × (length cards ≡ length cards₀)
