@@ -2,6 +2,7 @@
 
 use crate::accepted::LARGEST;
 use crate::cases::Call;
+use crate::checker::Checker;
 use crate::queries::of_length;
 use crate::syntax::{
     self, always, and, b, brought, instance, lit, n, op, p, prime, tree, tree_of, Expr, Field,
@@ -13,6 +14,53 @@ pub struct Family {
     pub label: String,
     pub file: Vec<u8>,
     pub call: Call,
+}
+
+/// Memory to lend, kept from call to call.
+pub struct Memory {
+    cards: Vec<u8>,
+    out: Vec<u8>,
+}
+
+impl Default for Memory {
+    fn default() -> Self {
+        Memory {
+            cards: vec![0; 32_000],
+            out: vec![0; 70_000],
+        }
+    }
+}
+
+impl Family {
+    /// Whether this checker answers the call.
+    pub fn is_answered_by(&self, checker: &dyn Checker) -> bool {
+        matches!(self.call, Call::Check) || checker.queries().is_some()
+    }
+
+    /// The packed reply. A clock around this times the checker alone: nothing is allocated here.
+    pub fn call(&self, checker: &dyn Checker, memory: &mut Memory) -> u64 {
+        let (file, cards) = (&self.file[..], &mut memory.cards[..]);
+        let queries = || checker.queries().expect("queries are answered");
+        match &self.call {
+            Call::Check => checker.check(file, cards) as u64,
+            Call::Level {
+                module,
+                expr,
+                levels,
+            } => queries().level(file, cards, *module, expr, levels) as u64,
+            Call::Expand {
+                module,
+                expr,
+                params,
+                room,
+            } => {
+                let out = &mut memory.out[..*room];
+                queries().expand(file, cards, *module, expr, *params, out) as u64
+            }
+            Call::Alike { a, b } => queries().alike(file, cards, *a, *b) as u64,
+            Call::Body { d } => queries().body(file, cards, *d),
+        }
+    }
 }
 
 fn family(label: &str, file: &[u8], call: Call) -> Family {

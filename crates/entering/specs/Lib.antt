@@ -4,5 +4,6 @@ pub mod Numbering
 pub mod Written
 pub mod Implied
 pub mod Substitutes
+pub mod Shared
 pub mod Replaced
 pub mod Shows

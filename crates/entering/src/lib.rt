@@ -4,5 +4,6 @@ pub mod implied;
 pub mod numbering;
 pub mod own;
 pub mod replacing;
+pub mod sharing;
 pub mod substitutes;
 pub mod written;

@@ -2,6 +2,8 @@
 use crate::implied::arguments_of;
 use crate::implied::implied_form;
 use crate::implied::implied_ref;
+use crate::sharing::copy_form;
+use crate::sharing::first_same;
 use crate::written::Writing;
 use crate::written::find_substitution;
 use context::Code;
@@ -10,7 +12,7 @@ use context::lookup::find_declaration;
 use forms::Form;
 use limits::Limits;
 ghost use mathlib.Core.Path.{_≡_};
-ghost use Prim.Native.Nat.{_≤_, _<_};
+ghost use Prim.Native.Nat.{_+_, _≤_, _<_};
 ghost use lib.ListN.{length};
 ghost use Rattle.limits.specs.Limits.{maxDeclarations, maxModules};
 ghost use Rattle.context.specs.Store.{contextCodes};
@@ -159,6 +161,48 @@ fn enter_substitute(
     }
 }
 
+// Declaration d after those before it: the form of the first of its kind and name, which is there already, or else its own.
+fn enter_next(
+    s: &[u8],
+    refs: &[u16],
+    numbers: &[u16],
+    words: &[u64],
+    names: &[u16],
+    facts: &[u16],
+    contexts: &[u16],
+    heads: &[u16],
+    declared: &[u16],
+    site: Site,
+    q: usize,
+    d: usize,
+    next: &mut [u64],
+)
+    requires { ⌜ (length (now words) ≡ tableWords) × Fitting site × (length (now next) ≡ nextWords) × (q ≤ maxModules) × (d < maxDeclarations) × Substituted (around (now s) (now refs) (now numbers) (now words) (now names) (now facts) (now contexts) (now heads)) site (contextCodes (now contexts) (now heads) q) (now declared) d (now next) (now next) ⌝ }
+    ensures { λ r. ⌜ Substituted (around (now (s .entry)) (now (refs .entry)) (now (numbers .entry)) (now (words .entry)) (now (names .entry)) (now (facts .entry)) (now (contexts .entry)) (now (heads .entry))) site (contextCodes (now (contexts .entry)) (now (heads .entry)) q) (now (declared .entry)) (d + 1) (now (next .entry)) (now (next .exit)) ⌝ }
+{
+    let i = first_same(names, facts, declared, d);
+    if i < d {
+        copy_form(next, i, d);
+        return;
+    }
+    let e = number_at(declared, d);
+    enter_substitute(
+        s,
+        refs,
+        numbers,
+        words,
+        names,
+        facts,
+        contexts,
+        heads,
+        site,
+        q,
+        e,
+        d,
+        next,
+    );
+}
+
 // The forms of what stands for the declarations of module q, in a table of their own: by number, among the first n declarations of the
 // file, whose codes are given.
 pub fn enter_substitutes(
@@ -181,8 +225,7 @@ pub fn enter_substitutes(
 {
     let mut d: usize = 0;
     while d < n {
-        let e = number_at(declared, d);
-        enter_substitute(
+        enter_next(
             s,
             refs,
             numbers,
@@ -191,9 +234,9 @@ pub fn enter_substitutes(
             facts,
             contexts,
             heads,
+            declared,
             site,
             q,
-            e,
             d,
             next,
         );

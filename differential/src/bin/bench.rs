@@ -1,9 +1,9 @@
 //! Times one or two level checkers on realistic files and on hostile families.
 
-use differential::cases::{Call, Case};
+use differential::cases::Case;
 use differential::checker::Checker;
 use differential::checker_named;
-use differential::families::{self, Family};
+use differential::families::{self, Family, Memory};
 use std::iter;
 use std::process::ExitCode;
 use std::time::{Duration, Instant};
@@ -44,43 +44,13 @@ fn arguments() -> Result<Arguments, String> {
     Ok(parsed)
 }
 
-/// Memory to lend, kept from call to call.
-struct Memory {
-    cards: Vec<u8>,
-    out: Vec<u8>,
-}
-
-fn call(checker: &dyn Checker, family: &Family, memory: &mut Memory) -> u64 {
-    let (file, cards) = (&family.file[..], &mut memory.cards[..]);
-    let queries = || checker.queries().expect("queries are answered");
-    match &family.call {
-        Call::Check => checker.check(file, cards) as u64,
-        Call::Level {
-            module,
-            expr,
-            levels,
-        } => queries().level(file, cards, *module, expr, levels) as u64,
-        Call::Expand {
-            module,
-            expr,
-            params,
-            room,
-        } => {
-            let out = &mut memory.out[..*room];
-            queries().expand(file, cards, *module, expr, *params, out) as u64
-        }
-        Call::Alike { a, b } => queries().alike(file, cards, *a, *b) as u64,
-        Call::Body { d } => queries().body(file, cards, *d),
-    }
-}
-
 /// The best time of several rounds; slow ones are not repeated often.
 fn best(checker: &dyn Checker, family: &Family, rounds: usize, memory: &mut Memory) -> Duration {
     let begin = Instant::now();
     let mut best = Duration::MAX;
     for _ in 0..rounds.max(1) {
         let start = Instant::now();
-        std::hint::black_box(call(checker, family, memory));
+        std::hint::black_box(family.call(checker, memory));
         best = best.min(start.elapsed());
         if begin.elapsed() > Duration::from_secs(2) {
             break;
@@ -93,10 +63,7 @@ fn run() -> Result<(), String> {
     let given = arguments()?;
     let left = checker_named(&given.left)?;
     let right = given.right.as_deref().map(checker_named).transpose()?;
-    let mut memory = Memory {
-        cards: vec![0; 32_000],
-        out: vec![0; 70_000],
-    };
+    let mut memory = Memory::default();
     print!(
         "{:40} {:>7} {:>18} {:>12}",
         "", "bytes", "reply", "left (ms)"
@@ -114,7 +81,7 @@ fn run() -> Result<(), String> {
     // Queries only where both sides answer them.
     let answered = |family: &&Family| {
         let mut sides = iter::once(&left).chain(&right);
-        matches!(family.call, Call::Check) || sides.all(|side| side.queries().is_some())
+        sides.all(|side| family.is_answered_by(&**side))
     };
     for family in families.iter().flatten().filter(answered) {
         let case = Case::new(&family.file, family.call.clone());

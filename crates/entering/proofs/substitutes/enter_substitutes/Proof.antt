@@ -2,7 +2,8 @@
 use Prim.Native.Nat.{_-_, _≤_}
 use Rattle.context.specs.Store.{contextCodes}
 use Rattle.entering.specs.Substitutes.{Substituted, around}
-use Rattle.entering.proofs.Substituting.{substituted-start, substituted-turn, substituted-whole, substituted-length}
+use Rattle.entering.proofs.Substituting.{substituted-start, substituted-whole, substituted-length}
+use Rattle.entering.proofs.Copied.{substituted-now, substituted-next}
 use borrow.Author.Needs.{needs}
 use Rattle.entering.proofs.substitutes.enter_substitutes.Statement.{statement}
 use Rattle.entering.proofs.substitutes.enter_substitutes.Tie as tie
@@ -17,11 +18,8 @@ abbrev μ-loop : tie.MeasureT-loop
 loop-holds : tie.Need-loop-holds Inv-loop μ-loop
 loop-holds c = (search needs, search substituted-start)
 
-number-at-requires : tie.Need-number-at-requires Inv-loop μ-loop
-number-at-requires c κs = search needs
-
-enter-substitute-requires : tie.Need-enter-substitute-requires Inv-loop μ-loop
-enter-substitute-requires c κs = search (needs, substituted-length)
+enter-next-requires : tie.Need-enter-next-requires Inv-loop μ-loop
+enter-next-requires c κs = (search needs, search needs, search (needs, substituted-length), search needs, search needs, search substituted-now)
 
 add-d : tie.Need-add-d Inv-loop μ-loop
 add-d c = search needs
@@ -30,7 +28,7 @@ loop-less : tie.Need-loop-less Inv-loop μ-loop
 loop-less c = search needs
 
 loop-again : tie.Need-loop-again Inv-loop μ-loop
-loop-again c = (search needs, search substituted-turn)
+loop-again c = (search needs, search substituted-next)
 
 same-length : tie.Need-same-length Inv-loop μ-loop
 same-length c = search (needs, substituted-length)
@@ -45,8 +43,7 @@ enter-substitutes-spec =
     Inv-loop
     μ-loop
     loop-holds
-    number-at-requires
-    enter-substitute-requires
+    enter-next-requires
     add-d
     loop-less
     loop-again

@@ -1,0 +1,193 @@
+//! The numbered causes in words, each with the smallest file that shows it.
+
+/// The smallest file that is refused by a number.
+pub enum Example {
+    /// In the readable notation.
+    Text(&'static str),
+    /// Bytes that have no readable form.
+    Bytes(&'static [u8]),
+    /// No file alone shows it.
+    None,
+}
+
+pub struct Cause {
+    /// The cause as the table of refusals has it.
+    pub title: &'static str,
+    pub meaning: &'static str,
+    pub example: Example,
+}
+
+/// The cause with a number.
+pub fn cause(number: u32) -> Option<&'static Cause> {
+    CAUSES.get((number as usize).checked_sub(1)?)
+}
+
+/// Levels 0 to 4.
+pub const LEVELS: [&str; 5] = [
+    "constant",
+    "state",
+    "action",
+    "temporal",
+    "not level-correct",
+];
+
+/// A level with its word.
+pub fn level(level: u8) -> String {
+    match LEVELS.get(usize::from(level)) {
+        Some(word) => format!("level {level} ({word})"),
+        None => format!("level {level}"),
+    }
+}
+
+/// What a built-in takes, if it does not take every level.
+pub fn takes(code: u8) -> Option<&'static str> {
+    Some(match code {
+        112 => "' takes level 0 or 1",
+        113 => "ENABLED takes level 0, 1 or 2",
+        114 => "UNCHANGED takes level 0 or 1",
+        115 => "[A]_v takes A at level 0, 1 or 2 and v at level 0 or 1",
+        116 => "<<A>>_v takes A at level 0, 1 or 2 and v at level 0 or 1",
+        117 => "\\cdot takes level 0, 1 or 2 on both sides",
+        118 => "[] takes level 0, 1 or 3",
+        119 => "<> takes level 0, 1 or 3",
+        120 => "[][A]_v takes A at level 0, 1 or 2 and v at level 0 or 1",
+        121 => "<><<A>>_v takes A at level 0, 1 or 2 and v at level 0 or 1",
+        122 => "~> takes level 0, 1 or 3 on both sides",
+        123 => "-+-> takes level 0, 1 or 3 on both sides",
+        124 => "WF_v(A) takes v at level 0 or 1 and A at level 0, 1 or 2",
+        125 => "SF_v(A) takes v at level 0 or 1 and A at level 0, 1 or 2",
+        140 => "\\EE takes a body at level 0, 1 or 3",
+        141 => "\\AA takes a body at level 0, 1 or 3",
+        _ => return None,
+    })
+}
+
+const CAUSES: [Cause; 18] = [
+    Cause {
+        title: "card memory under 32,000 bytes",
+        meaning: "The caller lends the checker too little memory for the cards. Nothing is read and \
+            nothing is written. This program always lends enough; a program that calls the \
+            archive itself may not.",
+        example: Example::None,
+    },
+    Cause {
+        title: "file empty or over its limit",
+        meaning: "A file has 1 to 32,768 bytes.",
+        example: Example::Bytes(&[]),
+    },
+    Cause {
+        title: "layout: cut short, left over, an unknown tag, token or code, name 0, or an unnamed instance with parameters",
+        meaning: "The bytes are not fields. A field is a tag from 1 to 9, a two-byte length and that \
+            many bytes, which must be exactly what the tag asks for; an expression has every \
+            argument that its tokens ask for and nothing more; a name is never 0; an instance \
+            without a name has no parameters.",
+        example: Example::Bytes(&[0]),
+    },
+    Cause {
+        title: "field outside its order, or the file ends inside a module",
+        meaning: "A module begins with its module field and ends with its end field; all else stands \
+            between them, and EXTENDS only right after the module field. Modules are not nested, \
+            and the last one must end.",
+        example: Example::Text("====\n"),
+    },
+    Cause {
+        title: "a limit passed",
+        meaning: "16 modules, 64 declarations and 256 definitions in a file (those that instances \
+            bring counted), 3 parameters or arguments (an instance's and an operator's own added \
+            together), and nesting 32 in an expression.",
+        example: Example::Text("---- MODULE M ----\nCONSTANT K(_, _, _, _)\n"),
+    },
+    Cause {
+        title: "module name used before",
+        meaning: "Two modules of a file have one name.",
+        example: Example::Text("---- MODULE M ----\n====\n---- MODULE M ----\n"),
+    },
+    Cause {
+        title: "module named is not ended earlier",
+        meaning: "EXTENDS or INSTANCE names a module that the file does not have, or that has not \
+            ended where it is named: a module uses what stands before it.",
+        example: Example::Text("---- MODULE M ----\nEXTENDS M\n"),
+    },
+    Cause {
+        title: "name already in the context, own or brought",
+        meaning: "A field adds a name that means something in the module already: declared, defined, \
+            an instance's name, extended, or brought by an instance without a name. Two extended \
+            modules may bring one name only if it comes from the same field.",
+        example: Example::Text("---- MODULE M ----\nVARIABLE x\nVARIABLE x\n"),
+    },
+    Cause {
+        title: "name, parameter or bound index unknown",
+        meaning: "An expression uses a name that the module does not know at that place, an operator \
+            that an instance does not bring, a parameter or bound variable that nothing \
+            introduces, or an instance's name as an operator. Or a name that the instanced module \
+            declares has no substitution and is not known here to stand for itself.",
+        example: Example::Text("---- MODULE M ----\nASSUME ?p0\n"),
+    },
+    Cause {
+        title: "argument count wrong",
+        meaning: "An operator is given another number of arguments than it takes; or a declared name \
+            without a substitution stands for a name of the context with another number of \
+            arguments.",
+        example: Example::Text("---- MODULE M ----\nCONSTANT K(_)\nASSUME K\n"),
+    },
+    Cause {
+        title: "substituted name not declared there, or twice",
+        meaning: "INSTANCE .. WITH replaces declared names of the instanced module (extended ones \
+            included), each at most once; definitions cannot be replaced.",
+        example: Example::Text(
+            "---- MODULE M ----\n====\n---- MODULE N ----\nINSTANCE M WITH x <- op0\n",
+        ),
+    },
+    Cause {
+        title: "not level-correct: level 4 in a body, substitute or formula",
+        meaning: "With its parameters at level 0 the expression puts something where its level is not \
+            taken: x'' primes an action, []x' is temporal over an action that is not of the form \
+            [A]_v. In TLA+ such an expression has no meaning.",
+        example: Example::Text("---- MODULE M ----\nTHEOREM op0''\n"),
+    },
+    Cause {
+        title: "ASSUME not level 0",
+        meaning: "What is assumed speaks of constants only: no variable, no prime, nothing temporal.",
+        example: Example::Text("---- MODULE M ----\nASSUME op0'\n"),
+    },
+    Cause {
+        title: "substitute's level not lawful",
+        meaning: "An instance puts something in a declared name's place whose level is too high. In a \
+            module with variables (or with a definition above level 0) a constant takes level 0 \
+            only and a variable level 0 or 1; an operator with arguments always takes level 0. \
+            This is the accident that the checker is for: a variable put for the unit constant of \
+            a module that is in order by itself (samples/depth-accident).",
+        example: Example::Text(
+            "---- MODULE M ----\nVARIABLE x\n====\n---- MODULE N ----\nINSTANCE M WITH x <- op0'\n",
+        ),
+    },
+    Cause {
+        title: "a brought definition is level 4",
+        meaning: "Every substitute is lawful by itself, but with all of them in place a definition of \
+            the instanced module is no longer level-correct. This comes of an operator with \
+            arguments whose substitute drops some of them.",
+        example: Example::Text(
+            "---- MODULE M ----\nCONSTANT K(_, _)\nD == []K(op0', []op0)\n====\n---- MODULE N ----\nINSTANCE M WITH K(a, b) <- a\n",
+        ),
+    },
+    Cause {
+        title: "the module instanced has a named instance",
+        meaning: "A module that has a named instance, its own or extended, cannot be instanced. \
+            Instance it without a name inside, or bring its definitions another way.",
+        example: Example::Text(
+            "---- MODULE M ----\n====\n---- MODULE N ----\nI == INSTANCE M\n====\n---- MODULE O ----\nINSTANCE N\n",
+        ),
+    },
+    Cause {
+        title: "no such module or definition",
+        meaning: "A query names a module or a definition that the file does not have. No check of a \
+            file is refused so.",
+        example: Example::None,
+    },
+    Cause {
+        title: "expansion longer than the output or 65,535 bytes",
+        meaning: "The expansion that a query asks for does not fit the memory lent for it, or is over \
+            65,535 bytes. No check of a file is refused so.",
+        example: Example::None,
+    },
+];

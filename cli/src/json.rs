@@ -1,0 +1,191 @@
+//! The shapes of `--json`: one object on a line for each file.
+
+use crate::archive::Refusal;
+use crate::causes;
+use crate::finding::Finding;
+use crate::input::Input;
+use crate::outline::Definition;
+use serde::Serialize;
+
+/// What `check` and `list` say of a file.
+#[derive(Serialize)]
+pub struct Report<'r> {
+    pub file: &'r str,
+    #[serde(flatten)]
+    pub verdict: Verdict,
+}
+
+#[derive(Serialize)]
+#[serde(tag = "verdict", rename_all = "lowercase")]
+pub enum Verdict {
+    Accepted {
+        /// How many there are.
+        definitions: usize,
+        #[serde(skip_serializing_if = "Option::is_none")]
+        cards: Option<Vec<Card>>,
+    },
+    Refused(Box<Refused>),
+    /// The file could not be read; there is no verdict.
+    Unreadable {
+        error: String,
+    },
+}
+
+/// A refusal.
+#[derive(Serialize)]
+pub struct Refused {
+    pub number: u32,
+    /// The field's number from 0, as the archive gives it.
+    pub place: u32,
+    pub cause: &'static str,
+    /// `null` where the place is no field.
+    pub field: Option<Field>,
+    pub message: String,
+    pub names: Vec<String>,
+    pub notes: Vec<String>,
+}
+
+#[derive(Serialize)]
+pub struct Field {
+    /// `null` for an unknown tag.
+    pub kind: Option<&'static str>,
+    /// Its first byte in the tagged file.
+    pub offset: usize,
+    /// `null` outside a module.
+    pub module: Option<String>,
+    /// The line in the text, for a file given as text.
+    pub line: Option<usize>,
+}
+
+/// A definition with its card.
+#[derive(Serialize)]
+pub struct Card {
+    pub number: usize,
+    /// The number of the instance's name, or 0.
+    pub instance: u16,
+    /// The number of the name.
+    pub name: u16,
+    pub parameters: u8,
+    /// The used entries, as digits run together.
+    pub levels: String,
+    pub module: String,
+    /// The name as it is written, `I!F` for a brought one.
+    pub written: String,
+    /// The number of the field that added it.
+    pub field: usize,
+}
+
+impl Card {
+    pub fn new(input: &Input, number: usize, definition: &Definition, entries: &[u8]) -> Card {
+        Card {
+            number,
+            instance: definition.instance,
+            name: definition.name,
+            parameters: definition.parameters,
+            levels: digits(entries),
+            module: input.module(definition.module),
+            written: written(input, definition),
+            field: definition.field,
+        }
+    }
+}
+
+/// Levels as digits run together.
+pub fn digits(entries: &[u8]) -> String {
+    entries
+        .iter()
+        .map(|level| char::from(b'0' + level))
+        .collect()
+}
+
+/// A definition's name, `I!F` for a brought one.
+pub fn written(input: &Input, definition: &Definition) -> String {
+    let name = input.operator(definition.name);
+    match definition.instance {
+        0 => name,
+        instance => format!("{}!{name}", input.operator(instance)),
+    }
+}
+
+impl Refused {
+    pub fn new(input: &Input, refusal: Refusal, finding: Finding) -> Refused {
+        Refused {
+            number: refusal.number,
+            place: refusal.place,
+            cause: causes::cause(refusal.number).map_or("", |cause| cause.title),
+            field: Field::at(input, refusal),
+            message: finding.message,
+            names: finding.names,
+            notes: finding.notes,
+        }
+    }
+}
+
+impl Field {
+    /// The refused field; `None` where the refusal is of no field.
+    pub fn at(input: &Input, refusal: Refusal) -> Option<Field> {
+        let place = refusal.place as usize;
+        let beyond = place >= input.file.fields.len() && input.fault.is_none();
+        if beyond || matches!(refusal.number, 1 | 2 | 17 | 18) {
+            return None;
+        }
+        let text = &input.source.text;
+        let line = || text[..input.source.start(place)].matches('\n').count() + 1;
+        let given = input.form == crate::args::Form::Text;
+        Some(Field {
+            kind: input.kind(place),
+            offset: *input.offsets.get(place)?,
+            module: input.module_at(place).map(|name| input.module(name)),
+            line: given.then(line),
+        })
+    }
+}
+
+/// What `card` says.
+#[derive(Serialize)]
+pub struct Drawn<'r> {
+    pub file: &'r str,
+    #[serde(flatten)]
+    pub card: Card,
+    pub parameter_names: Vec<String>,
+}
+
+/// What `show` says.
+#[derive(Serialize)]
+pub struct Shown<'r> {
+    pub file: &'r str,
+    pub bytes: usize,
+    pub fields: Vec<ShownField>,
+    /// Why the rest of the bytes are not fields.
+    pub fault: Option<Fault>,
+}
+
+#[derive(Serialize)]
+pub struct ShownField {
+    pub number: usize,
+    pub kind: Option<&'static str>,
+    pub offset: usize,
+    pub length: usize,
+    pub module: Option<String>,
+    pub text: String,
+}
+
+#[derive(Serialize)]
+pub struct Fault {
+    pub field: usize,
+    pub offset: usize,
+    pub reason: String,
+}
+
+/// What `explain` says.
+#[derive(Serialize)]
+pub struct Explained {
+    pub number: u32,
+    pub cause: &'static str,
+    pub meaning: &'static str,
+    /// The smallest file that shows it, in hexadecimal.
+    pub hexadecimal: Option<String>,
+    pub text: Option<&'static str>,
+    /// The place of the archive's refusal of that file.
+    pub place: Option<u32>,
+}

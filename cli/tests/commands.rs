@@ -1,0 +1,135 @@
+//! Cards, explanations, and misuse.
+
+mod common;
+
+use common::{run, run_with};
+use serde_json::Value;
+
+#[test]
+fn cards() {
+    let example = run_with(&["card", "-", "0"], &common::sample("example.bin"));
+    assert_eq!(example.status, 0);
+    assert_eq!(
+        example.text(),
+        "n3(p0), definition 0, module n1\n\n  p0     0 1 2 3 4\n  level  2 2 4 4 4\n\n\
+         0 constant, 1 state, 2 action, 3 temporal, 4 not level-correct\n"
+    );
+    let none = run(&["card", "samples/depth-lawful.tla", "Head!Sink"]);
+    assert!(none
+        .text()
+        .contains("Head!Sink, definition 6, module Panel\n\n  2  action\n"));
+    let two = run(&["card", "samples/relation.tla", "Relation:Pred"]);
+    assert!(two
+        .text()
+        .contains("  v     0 1 2 3 4\n  0     0 1 2 3 4\n  1     1 1 2 3 4\n"));
+    let three = run(&["card", "samples/relation.tla", "Steeper!Inverse"]);
+    assert!(three
+        .text()
+        .starts_with("Steeper!Inverse(by, v, u), definition 23, module Dredge\n"));
+    assert_eq!(three.text().matches("u at ").count(), 5);
+    let json = &run(&["card", "--json", "samples/relation.tla", "23"]).json()[0];
+    assert_eq!(json["written"], "Steeper!Inverse");
+    assert_eq!(json["parameter_names"], serde_json::json!(["by", "v", "u"]));
+    assert_eq!(json["levels"].as_str().map(str::len), Some(125));
+    let refused = run(&["card", "samples/depth-accident.tla", "0"]);
+    assert_eq!(refused.status, 1);
+    assert!(refused.text().contains("refused 14"));
+}
+
+/// Each smallest file is refused by its number, as the archive says.
+#[test]
+fn explanations() {
+    for number in 1..=18 {
+        let words = ["explain", "--json", &number.to_string()];
+        let told = &run(&words).json()[0];
+        assert_eq!(told["number"], number);
+        let Some(hexadecimal) = told["hexadecimal"].as_str() else {
+            assert!(matches!(number, 1 | 17 | 18), "{number}");
+            assert_eq!(told["place"], Value::Null);
+            continue;
+        };
+        let bytes: Vec<u8> = hexadecimal
+            .split_whitespace()
+            .map(|byte| u8::from_str_radix(byte, 16).expect("a byte"))
+            .collect();
+        let check = &run_with(&["check", "--json"], &bytes).json()[0];
+        assert_eq!(check["number"], number);
+        assert_eq!(check["place"], told["place"]);
+        // No smaller file comes of leaving bytes out at the end.
+        for length in 0..bytes.len() {
+            let less = &run_with(&["check", "--json"], &bytes[..length]).json()[0];
+            assert_ne!(less["number"], number);
+        }
+        if let Some(text) = told["text"].as_str() {
+            let check =
+                &run_with(&["check", "--json", "--as", "text", "-"], text.as_bytes()).json()[0];
+            assert_eq!(check["number"], number);
+        }
+        let text = run(&["explain", &number.to_string()]);
+        assert_eq!(text.status, 0);
+        assert!(text
+            .text()
+            .contains(&format!("The archive's reply: refused {number} ")));
+    }
+}
+
+#[test]
+fn misuse() {
+    for words in [
+        &["check", "samples/no-such-file"][..],
+        &["check", "samples"],
+        &["check", "--no-such-flag"],
+        &["explain", "19"],
+        &["explain", "0"],
+        &["card", "samples/example.bin", "1"],
+        &["card", "samples/example.bin", "nothing"],
+        &["card", "samples/relation.tla", "First!Nothing"],
+        &["convert", "samples/no-such-file"],
+        &["no-such-command"],
+        &[],
+    ] {
+        let run = run(words);
+        assert_eq!(run.status, 2, "{words:?}");
+        assert_eq!(run.text(), "", "{words:?}");
+        assert!(!run.err.is_empty(), "{words:?}");
+    }
+    // What can be checked is checked.
+    let mixed = run(&["check", "samples/no-such-file", "samples/example.bin"]);
+    assert_eq!(mixed.status, 2);
+    assert_eq!(
+        mixed.text(),
+        "samples/example.bin: accepted, 1 definition\n"
+    );
+    let text = run_with(
+        &["check", "--as", "text", "-"],
+        b"---- MODULE M ----\nD == (1\n====\n",
+    );
+    assert_eq!((text.status, text.text()), (2, ""));
+    assert!(text.err.contains("standard input:3:1"), "{}", text.err);
+    let two = b"---- MODULE M ----\nD == 1\n====\n---- MODULE N ----\nD == 2\n====\n";
+    let several = run_with(&["card", "--as", "text", "-", "D"], two);
+    assert_eq!(several.status, 2);
+    assert!(several
+        .err
+        .contains("several are called D: 0 (M:D), 1 (N:D)"));
+    let one = run_with(&["card", "--as", "text", "-", "N:D"], two);
+    assert!(one.text().starts_with("D, definition 1, module N\n"));
+}
+
+#[test]
+fn help() {
+    let help = run(&["--help"]);
+    assert_eq!(help.status, 0);
+    for word in [
+        "check",
+        "list",
+        "card",
+        "show",
+        "explain",
+        "convert",
+        "Examples:",
+        "Exit status",
+    ] {
+        assert!(help.text().contains(word), "{word}");
+    }
+}

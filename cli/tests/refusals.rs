@@ -1,0 +1,284 @@
+//! Refusals in words, and what they point at.
+
+mod common;
+
+use common::{run, run_with};
+use serde_json::Value;
+
+#[test]
+fn the_accident() {
+    let check = run(&["check", "samples/depth-accident.tla"]);
+    assert_eq!(check.status, 1);
+    assert_eq!(
+        check.text(),
+        "samples/depth-accident.tla: refused 14 at field 12 (INSTANCE, byte 120, module Panel): \
+         the variable scale stands for the constant unit of module Depth\n"
+    );
+    for piece in [
+        "error[refusal 14]: the variable scale stands for the constant unit of module Depth",
+        "samples/depth-accident.tla:18:29",
+        "^^^^^^^^^^^^^ scale has level 1 (state), and unit takes level 0",
+        "---- unit is declared a constant of module Depth",
+        "----- scale is a variable",
+        "so its constants may be replaced by constants only",
+    ] {
+        assert!(check.err.contains(piece), "{piece}\n{}", check.err);
+    }
+    assert!(!check.err.contains('\u{1b}'), "no colours in a pipe");
+    let coloured = run(&["check", "--color", "always", "samples/depth-accident.tla"]);
+    assert!(coloured.err.contains('\u{1b}'));
+}
+
+/// The tagged file has no spellings; with its source it has.
+#[test]
+fn the_source_of_a_tagged_file() {
+    let plain = run(&["check", "samples/depth-accident.bin"]);
+    assert!(plain
+        .text()
+        .contains("the variable n9 stands for the constant n1 of module n1"));
+    let source = ["--source", "samples/depth-accident.tla"];
+    let named = run(&["check", "samples/depth-accident.bin", source[0], source[1]]);
+    assert_eq!(named.status, 1);
+    assert!(named
+        .text()
+        .contains("the variable scale stands for the constant unit"));
+    let other = run(&["check", "samples/depth-lawful.bin", source[0], source[1]]);
+    assert_eq!(other.status, 2);
+    assert!(other.err.contains("converts to other bytes"));
+}
+
+#[test]
+fn the_shape_of_json() {
+    let report = &run(&["check", "--json", "samples/depth-accident.tla"]).json()[0];
+    let keys = |value: &Value| -> Vec<String> {
+        let mut keys: Vec<String> = value
+            .as_object()
+            .expect("an object")
+            .keys()
+            .cloned()
+            .collect();
+        keys.sort();
+        keys
+    };
+    assert_eq!(
+        keys(report),
+        ["cause", "field", "file", "message", "names", "notes", "number", "place", "verdict"]
+    );
+    assert_eq!(keys(&report["field"]), ["kind", "line", "module", "offset"]);
+    assert_eq!(report["verdict"], "refused");
+    assert_eq!(
+        (&report["number"], &report["place"]),
+        (&14.into(), &12.into())
+    );
+    assert_eq!(report["field"]["offset"], 120);
+    assert_eq!(report["field"]["line"], 18);
+    assert_eq!(report["names"], serde_json::json!(["unit", "scale"]));
+    let report = &run(&["check", "--json", "samples/depth-lawful.bin"]).json()[0];
+    assert_eq!(keys(report), ["definitions", "file", "verdict"]);
+    assert_eq!(report["definitions"], 9);
+    let report = &run(&["list", "--json", "samples/example.bin"]).json()[0];
+    assert_eq!(
+        keys(&report["cards"][0]),
+        [
+            "field",
+            "instance",
+            "levels",
+            "module",
+            "name",
+            "number",
+            "parameters",
+            "written"
+        ]
+    );
+    let missing = run(&["check", "--json", "samples/no-such-file"]);
+    assert_eq!(missing.status, 2);
+    assert_eq!(keys(&missing.json()[0]), ["error", "file", "verdict"]);
+    assert_eq!(missing.json()[0]["verdict"], "unreadable");
+}
+
+/// A text, the number and place of its refusal, and pieces of what is said.
+const TEXTS: [(&str, u32, u32, &[&str]); 24] = [
+    ("---- MODULE M ----\nVARIABLE x\n", 4, 2, &["ends inside module M"]),
+    (
+        "---- MODULE M ----\n---- MODULE N ----\n",
+        4,
+        1,
+        &["a module begins inside module M"],
+    ),
+    (
+        "---- MODULE M ----\nVARIABLE x\nEXTENDS M\n",
+        4,
+        2,
+        &["EXTENDS stands right after the module field"],
+    ),
+    (
+        "---- MODULE M ----\nD(a, b, c, d) == a\n",
+        5,
+        1,
+        &["a definition has 4 parameters, and the limit is 3"],
+    ),
+    (
+        "---- MODULE M ----\nD(a, b, c) == a\n====\n---- MODULE N ----\nI(p) == INSTANCE M\n",
+        5,
+        4,
+        &["D has 3 parameters and the instance 1"],
+    ),
+    (
+        "---- MODULE M ----\n====\n---- MODULE M ----\n",
+        6,
+        2,
+        &["there is a module M already"],
+    ),
+    (
+        "---- MODULE M ----\nINSTANCE N\n====\n---- MODULE N ----\n====\n",
+        7,
+        1,
+        &["module N has not ended", "stands later in the file"],
+    ),
+    (
+        "---- MODULE M ----\nD == 0\n====\n---- MODULE N ----\nVARIABLE D\nINSTANCE M\n",
+        8,
+        5,
+        &["D has a meaning here already", "a variable, declared here"],
+    ),
+    (
+        "---- MODULE A ----\nVARIABLE x\n====\n---- MODULE B ----\nVARIABLE x\n====\n---- MODULE C ----\nEXTENDS A, B\n",
+        8,
+        7,
+        &["x comes from two origins"],
+    ),
+    (
+        "---- MODULE M ----\nD == y + 1\n",
+        9,
+        1,
+        &["y is not known here", "^ unknown"],
+    ),
+    (
+        "---- MODULE M ----\n====\n---- MODULE N ----\nI == INSTANCE M\nD == I\n",
+        9,
+        4,
+        &["I is the name of an instance, not an operator"],
+    ),
+    (
+        "---- MODULE M ----\n====\n---- MODULE N ----\nI == INSTANCE M\nD == I!F\n",
+        9,
+        4,
+        &["I brings no definition F"],
+    ),
+    (
+        "---- MODULE M ----\nVARIABLE x\n====\n---- MODULE N ----\nI == INSTANCE M\n",
+        9,
+        4,
+        &["x has no substitution, and is not known here to stand for itself"],
+    ),
+    (
+        "---- MODULE M ----\nF(a) == a\nD == F(1) + F\n",
+        10,
+        2,
+        &["F takes 1 argument, and is given 0", "^ 0 given"],
+    ),
+    (
+        "---- MODULE M ----\nCONSTANT K(_)\n====\n---- MODULE N ----\nVARIABLE K\nINSTANCE M\n",
+        10,
+        5,
+        &["K stands for itself, but takes no arguments here and 1 argument in the module instanced"],
+    ),
+    (
+        "---- MODULE M ----\nVARIABLE x\n====\n---- MODULE N ----\nINSTANCE M WITH x <- 1, x <- 2\n",
+        11,
+        4,
+        &["x is substituted twice", "x <- 2"],
+    ),
+    (
+        "---- MODULE M ----\nVARIABLE x\nD == \\E z : \\A y : z = (x')'\n",
+        12,
+        2,
+        &["not level-correct", "' takes level 0 or 1", "level 2 (action)"],
+    ),
+    (
+        "---- MODULE M ----\nVARIABLE x\nTHEOREM \\EE z : <>z /\\ [](z')\n",
+        12,
+        2,
+        &["not level-correct", "[] takes level 0, 1 or 3"],
+    ),
+    (
+        "---- MODULE M ----\nVARIABLE x\n====\n---- MODULE N ----\nVARIABLE y\nINSTANCE M WITH x <- y''\n",
+        12,
+        5,
+        &["the substitute of x has level 4", "' takes level 0 or 1"],
+    ),
+    (
+        "---- MODULE M ----\nVARIABLE x\nASSUME x > 0\n",
+        13,
+        2,
+        &["what is assumed has level 1 (state), not level 0"],
+    ),
+    (
+        "---- MODULE M ----\nCONSTANT K(_)\n====\n---- MODULE N ----\nVARIABLE y\nINSTANCE M WITH K(a) <- a + y\n",
+        14,
+        5,
+        &["stands for the operator K of module M", "an operator takes a substitute of level 0"],
+    ),
+    (
+        "---- MODULE M ----\nCONSTANT c, d\nVARIABLE x\n====\n---- MODULE N ----\nCONSTANT c\nVARIABLES x, d\nINSTANCE M\n",
+        14,
+        9,
+        &["the variable d stands for the constant d of module M"],
+    ),
+    (
+        "---- MODULE M ----\nCONSTANT K(_, _)\nA == 1\nB == []K(op0', []op0)\nC == 2\n====\n---- MODULE N ----\nINSTANCE M WITH K(a, b) <- a\n",
+        15,
+        7,
+        &["B of module M has level 4", "B is in order by itself"],
+    ),
+    (
+        "---- MODULE L ----\n====\n---- MODULE M ----\nI == INSTANCE L\n====\n---- MODULE N ----\nEXTENDS M\n====\n---- MODULE O ----\nINSTANCE N\n",
+        16,
+        9,
+        &["module N has the named instance I"],
+    ),
+];
+
+#[test]
+fn in_words() {
+    for (text, number, place, pieces) in TEXTS {
+        let words = ["check", "--as", "text", "-"];
+        let check = run_with(&words, text.as_bytes());
+        assert_eq!(check.status, 1, "{text}");
+        let said = format!("{}{}", check.text(), check.err);
+        for piece in pieces {
+            assert!(said.contains(piece), "{piece}\n{said}");
+        }
+        let json = &run_with(&[&words[..], &["--json"]].concat(), text.as_bytes()).json()[0];
+        assert_eq!(json["number"], number, "{text}");
+        assert_eq!(json["place"], place, "{text}");
+        assert_ne!(json["message"], json["cause"], "{text}");
+    }
+}
+
+/// Faults of the layout, which text does not have.
+#[test]
+fn layout() {
+    for (bytes, number, message) in [
+        (&[][..], 2, "the file is empty"),
+        (&[0][..], 3, "byte 0: no field has the tag 0"),
+        (&[1, 0, 2, 0, 0][..], 3, "byte 3: a name is 0"),
+        (
+            &[1, 0, 2, 0, 1, 8, 0, 2, 4, 104][..],
+            3,
+            "byte 9: no built-in has the code 104",
+        ),
+        (
+            &[7; 32_769][..],
+            2,
+            "the file has 32769 bytes, and the limit is 32768",
+        ),
+    ] {
+        let json = &run_with(&["check", "--json"], bytes).json()[0];
+        assert_eq!(json["number"], number, "{message}");
+        assert_eq!(json["message"], message);
+        let text = run_with(&["check"], bytes);
+        assert_eq!(text.status, 1);
+        assert!(text.text().contains(message));
+    }
+}
