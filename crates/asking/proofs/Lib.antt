@@ -1,0 +1,9 @@
+-- What the code rests on
+pub mod Levels
+pub mod Causes
+pub mod Walking
+-- The table that the walk does without
+pub mod Noting
+-- The rules' answer
+pub mod Judging
+pub mod Replies

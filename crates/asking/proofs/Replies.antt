@@ -1,0 +1,245 @@
+-- Each reply of the level query is the rules'.
+use borrow.Author.Tests.{leb-false, ltb-false}
+use mathlib.Core.Bool.{Bool, cond, false, true}
+use mathlib.Core.List.{List, [], _∷_}
+use mathlib.Core.Option.{Option, none, some}
+use mathlib.Core.Path.{_∙_, _≡_, ap, ap₂, refl, sym}
+use Prim.Native.Nat.{ℕ, zero, suc, _<_, _≤_}
+use native.Mathlib.Omega.{arith}
+use lib.Dec.{leb, ltb}
+use lib.ListN.{List·getD-append, getD, getElem?, length}
+use Rattle.limits.specs.Limits.{levelCount, maxArity, maxNesting}
+use Rattle.theory.specs.Lists.{All, any, isSome}
+use Rattle.theory.specs.Term.{Term}
+use Rattle.theory.proofs.Levels.{IsLevel}
+use Rattle.theory.proofs.Lists.{any-false, map-all, never}
+use Rattle.rules.specs.Expression.{Expression, expression, overArity, overLimit}
+use Rattle.rules.specs.Field.{Field}
+use Rattle.rules.specs.Judge.{firstCause, miscounted, unknown}
+use Rattle.rules.specs.Query.{orNoSuch, readIn, unlessCause}
+use Rattle.rules.specs.Run.{Outcome, andThen, refusal, result}
+use Rattle.rules.specs.State.{Module, State, levelOf, moduleNamed, noModule, resolve}
+use Rattle.tokens.specs.Expr.{exprAt, wholeOf}
+use Rattle.tokens.specs.Limit.{limitAt}
+use Rattle.tokens.proofs.Writing.{Bytes}
+use Rattle.agree.proofs.Expressions.{whole-agrees, whole-read}
+use Rattle.forms.specs.declared.Form.{Form}
+use Rattle.forms.specs.Forms.{levelAt, width}
+use Rattle.context.specs.Holds.{Holds, moduleNo}
+use Rattle.context.specs.Parts.{part, placeOf}
+use Rattle.context.specs.Store.{Store, contextCodes, store}
+use Rattle.context.specs.declared.Counts.{Counts}
+use Rattle.context.proofs.Lookups.{module-law}
+use Rattle.worlds.specs.Rows.{Row}
+use Rattle.judge_plain.specs.declared.Phase.{Phase}
+use Rattle.standing.specs.Standing.{Standing}
+use Rattle.asking.specs.Asks.{Asks, AsksIn, NamesAsked, isPassed, nameCause, readingCause}
+use Rattle.asking.specs.Walk.{AskedForm}
+use Rattle.asking.specs.declared.Asked.{Asked}
+use Rattle.asking.specs.declared.Asked.the-variants.{Level, Refused}
+use Rattle.asking.proofs.Judging.{asked-level, asked-right, limit-law}
+
+-- the module at a place of those ended
+there : (ms : List Module) (i : ℕ) → i < length ms → getElem? ms i ≡ some (getD ms i noModule)
+there [] i k = absurd (omega arith)
+there (M ∷ ms) zero k = refl
+there (M ∷ ms) (suc i) k = there ms i (omega arith)
+
+not-there : (ms : List Module) (i : ℕ) → length ms ≤ i → getElem? ms i ≡ none
+not-there [] i k = refl
+not-there (M ∷ ms) zero k = absurd (omega arith)
+not-there (M ∷ ms) (suc i) k = not-there ms i (omega arith)
+
+module _ (v : Store) (c : Counts) (s : State) (holds : Holds v c s) (m q : ℕ) (place : q ≡ placeOf m (part (v .heads) 0 (c .modules))) where
+  found-module : q < c .modules → moduleNamed s m ≡ some (moduleNo s q)
+  found-module h =
+      let l : q < length (s .ended) = omega (arith, holds .modules) in
+      module-law v c s holds m ∙ ap (getElem? (s .ended)) (sym place) ∙ there (s .ended) q l
+      ∙ ap some (sym (List·getD-append (s .ended) (s .current ∷ []) noModule q l))
+
+  no-module : c .modules ≤ q → moduleNamed s m ≡ none
+  no-module h = module-law v c s holds m ∙ ap (getElem? (s .ended)) (sym place) ∙ not-there (s .ended) q (omega (arith, holds .modules))
+
+-- the causes of a query, in their order
+module _ (a b d u w : Bool) (p : ℕ) (t : Term) (f : Term → Outcome ℕ) where
+  abbrev Whole : Outcome ℕ
+  Whole = andThen (unlessCause (firstCause ((3, a) ∷ (5, b) ∷ (5, d) ∷ (9, u) ∷ (10, w) ∷ [])) p t) f
+
+abbrev three : Bool → Bool → Bool → ℕ
+three a b d = cond a 3 (cond b 5 (cond d 5 0))
+
+abbrev two : Bool → Bool → ℕ
+two u w = cond u 9 (cond w 10 0)
+
+first-three : (a b d u w : Bool) (p : ℕ) (t : Term) (f : Term → Outcome ℕ) → (three a b d ≡ 0 → ⊥) → refusal (three a b d) p ≡ Whole a b d u w p t f
+first-three true b d u w p t f h = refl
+first-three false true d u w p t f h = refl
+first-three false false true u w p t f h = refl
+first-three false false false u w p t f h = absurd (h refl)
+
+none-of-three : (a b d : Bool) → three a b d ≡ 0 → (a ≡ false) × (b ≡ false) × (d ≡ false)
+none-of-three true b d h = absurd (omega arith)
+none-of-three false true d h = absurd (omega arith)
+none-of-three false false true h = absurd (omega arith)
+none-of-three false false false h = (refl, refl, refl)
+
+last-two : (a b d u w : Bool) (p : ℕ) (t : Term) (f : Term → Outcome ℕ) → three a b d ≡ 0 → (two u w ≡ 0 → ⊥) → refusal (two u w) p ≡ Whole a b d u w p t f
+last-two true b d u w p t f z h = absurd (omega arith)
+last-two false true d u w p t f z h = absurd (omega arith)
+last-two false false true u w p t f z h = absurd (omega arith)
+last-two false false false true w p t f z h = refl
+last-two false false false false true p t f z h = refl
+last-two false false false false false p t f z h = absurd (h refl)
+
+none-of-two : (u w : Bool) → two u w ≡ 0 → (u ≡ false) × (w ≡ false)
+none-of-two true w h = absurd (omega arith)
+none-of-two false true h = absurd (omega arith)
+none-of-two false false h = (refl, refl)
+
+none-at-all : (a b d u w : Bool) (p : ℕ) (t : Term) (f : Term → Outcome ℕ) → three a b d ≡ 0 → two u w ≡ 0 → f t ≡ Whole a b d u w p t f
+none-at-all true b d u w p t f z h = absurd (omega arith)
+none-at-all false true d u w p t f z h = absurd (omega arith)
+none-at-all false false true u w p t f z h = absurd (omega arith)
+none-at-all false false false true w p t f z h = absurd (omega arith)
+none-at-all false false false false true p t f z h = absurd (omega arith)
+none-at-all false false false false false p t f z h = refl
+
+-- what is not an expression is read as none
+none-spelt : (o : Option Expression) → isSome o ≡ false → o ≡ none
+none-spelt none h = refl
+none-spelt (some e) h = never h
+
+module _ (levels expr : List ℕ) (bytes : Bytes expr) where
+  -- causes 3 and 5 of an expression that is spelt
+  reading-law : (e : Expression) → wholeOf expr ≡ true → expression .read expr ≡ some e
+      → readingCause levels expr ≡ three (any (λ l. leb levelCount l) levels) (overArity (length levels)) (overLimit e)
+  unfolding readingCause
+  reading-law e h q = rw (h, limit-law expr e q) refl
+
+  reading-none : wholeOf expr ≡ false → readingCause levels expr ≡ 3
+  unfolding readingCause
+  reading-none h = rw h refl
+
+  -- without these causes, an expression is spelt that keeps the limits, and the levels are levels of at most three parameters
+  clear-spelt : readingCause levels expr ≡ 0 → (e : Expression) × (expression .read expr ≡ some e)
+      × (three (any (λ l. leb levelCount l) levels) (overArity (length levels)) (overLimit e) ≡ 0)
+  clear-spelt z = go (wholeOf expr) refl
+    where
+      go : (b : Bool) → wholeOf expr ≡ b → (e : Expression) × (expression .read expr ≡ some e)
+          × (three (any (λ l. leb levelCount l) levels) (overArity (length levels)) (overLimit e) ≡ 0)
+      go true h = let r = whole-read expr bytes h in (r .0, r .1, sym (reading-law (r .0) h (r .1)) ∙ z)
+      go false h = absurd (omega (arith, reading-none h))
+
+  are-levels : any (λ l. leb levelCount l) levels ≡ false → All IsLevel levels
+  are-levels h =
+      map-all (λ l. leb levelCount l ≡ false) IsLevel (λ l e. let k : l < levelCount = leb-false levelCount l e in omega arith) levels
+      (any-false (λ l. leb levelCount l) levels h)
+
+-- The reply in a module m that is ended.
+module _ (names facts contexts heads words : List ℕ) (m fields : ℕ) (levels expr : List ℕ) (bytes : Bytes expr) where
+  abbrev End : State → Term → Outcome ℕ
+  End s t = result (levelOf s levels t)
+
+  as-read : (s : State) (o : Option Expression) → expression .read expr ≡ o
+      → andThen (readIn s (moduleNo s m) levels (length levels) o) (End s) ≡ andThen (readIn s (moduleNo s m) levels (length levels) (expression .read expr)) (End s)
+  as-read s o e = ap (λ (o : Option Expression). andThen (readIn s (moduleNo s m) levels (length levels) o) (End s)) (sym e)
+
+  -- 3 and 5
+  pub reply-reading : (r : ℕ) → r ≡ readingCause levels expr → (r ≡ 0 → ⊥) → AsksIn names facts contexts heads words m fields levels expr (Refused r fields)
+  reply-reading r is-r h = record { reply = λ file fs s rs c p orders refs declared stands ended e. go s (e ∙ stands .holds .fields) (wholeOf expr) refl }
+    where
+      go : (s : State) → fields ≡ s .fields → (b : Bool) → wholeOf expr ≡ b
+          → refusal r fields ≡ andThen (readIn s (moduleNo s m) levels (length levels) (expression .read expr)) (End s)
+      go s f false e =
+          ap₂ refusal (is-r ∙ reading-none levels expr bytes e) f
+          ∙ as-read s none (none-spelt (expression .read expr) (sym (whole-agrees expr bytes) ∙ e))
+      go s f true e =
+          let y = whole-read expr bytes e in
+          let law = is-r ∙ reading-law levels expr bytes (y .0) e (y .1) in
+          ap₂ refusal law f
+          ∙ first-three (any (λ l. leb levelCount l) levels) (overArity (length levels)) (overLimit (y .0))
+          (unknown s (moduleNo s m .context) (length levels) (y .0)) (miscounted s (moduleNo s m .context) (y .0)) (s .fields)
+          (resolve s (moduleNo s m .context) (y .0)) (End s) (λ z. h (law ∙ z))
+          ∙ as-read s (some (y .0)) (y .1)
+
+  module _ (clear : readingCause levels expr ≡ 0) (k : ℕ)
+      (asked : NamesAsked names facts (contextCodes contexts heads m) (length levels) (exprAt maxNesting expr 0) k) where
+    spelt : (e : Expression) × (expression .read expr ≡ some e) × (three (any (λ l. leb levelCount l) levels) (overArity (length levels)) (overLimit e) ≡ 0)
+    spelt = clear-spelt levels expr bytes clear
+
+    causes : (any (λ l. leb levelCount l) levels ≡ false) × (overArity (length levels) ≡ false) × (overLimit (spelt .0) ≡ false)
+    causes = none-of-three (any (λ l. leb levelCount l) levels) (overArity (length levels)) (overLimit (spelt .0)) (spelt .2)
+
+    names-law : (file : List ℕ) (fs : List Field) (s : State) (rs : List Row) (c : Counts) (p : Phase) (orders refs declared : List ℕ)
+        → Standing file fs s rs (store names facts contexts orders heads) c p refs words declared → m < c .modules
+        → k ≡ two (unknown s (moduleNo s m .context) (length levels) (spelt .0)) (miscounted s (moduleNo s m .context) (spelt .0))
+    unfolding nameCause
+    names-law file fs s rs c p orders refs declared stands ended =
+        let right = asked-right file fs s rs (store names facts contexts orders heads) c p refs words declared stands m ended expr bytes (spelt .0) (spelt .1)
+        (causes .2) (length levels) k asked in
+        asked .cause ∙ ap₂ two (right .cause-9) (right .cause-10)
+
+    -- 9 and 10
+    pub reply-names : (k ≡ 0 → ⊥) → AsksIn names facts contexts heads words m fields levels expr (Refused k fields)
+    reply-names h = record {
+      reply = λ file fs s rs c p orders refs declared stands ended f.
+          let law = names-law file fs s rs c p orders refs declared stands ended in
+          ap₂ refusal law (f ∙ stands .holds .fields)
+          ∙ last-two (any (λ l. leb levelCount l) levels) (overArity (length levels)) (overLimit (spelt .0))
+          (unknown s (moduleNo s m .context) (length levels) (spelt .0)) (miscounted s (moduleNo s m .context) (spelt .0)) (s .fields)
+          (resolve s (moduleNo s m .context) (spelt .0)) (End s) (spelt .2) (λ z. h (law ∙ z))
+          ∙ as-read s (some (spelt .0)) (spelt .1);
+    }
+
+    few-levels : length levels ≤ maxArity
+    few-levels = ltb-false maxArity (length levels) (causes .1)
+
+    answers : k ≡ 0 → (asked .unknown ≡ false) × (asked .miscounted ≡ false)
+    unfolding nameCause
+    answers z = none-of-two (asked .unknown) (asked .miscounted) (sym (asked .cause) ∙ z)
+
+    -- the level
+    pub reply-level : k ≡ 0 → (f : Form) (l : ℕ) → AskedForm names facts (contextCodes contexts heads m) words expr f → l ≡ levelAt f levels
+        → AsksIn names facts contexts heads words m fields levels expr (Level l)
+    reply-level z f l form is-l = record {
+      reply = λ file fs s rs c p orders refs declared stands ended _.
+          let a = answers z in
+          let law = asked-level file fs s rs (store names facts contexts orders heads) c p refs words declared stands m ended expr bytes (spelt .0) (spelt .1)
+          (causes .2) (length levels) k asked (a .0) (a .1) f form levels refl few-levels (are-levels levels expr bytes (causes .0)) in
+          ap result (is-l ∙ law)
+          ∙ none-at-all (any (λ l. leb levelCount l) levels) (overArity (length levels)) (overLimit (spelt .0))
+          (unknown s (moduleNo s m .context) (length levels) (spelt .0)) (miscounted s (moduleNo s m .context) (spelt .0)) (s .fields)
+          (resolve s (moduleNo s m .context) (spelt .0)) (End s) (spelt .2) (sym (names-law file fs s rs c p orders refs declared stands ended) ∙ z)
+          ∙ as-read s (some (spelt .0)) (spelt .1);
+    }
+
+-- The reply by a module's name n.
+module _ (names facts contexts heads words : List ℕ) (c : Counts) (n : ℕ) (levels expr : List ℕ) (q : ℕ) (place : q ≡ placeOf n (part heads 0 (c .modules))) where
+  -- 17
+  pub reply-no-module : c .modules ≤ q → Asks names facts contexts heads words c n levels expr (Refused 17 0)
+  reply-no-module h = record {
+    reply = λ file fs s rs p orders refs declared stands.
+        ap (λ (o : Option Module). andThen (andThen (orNoSuch o) (λ M. readIn s M levels (length levels) (expression .read expr))) (λ t. result (levelOf s levels t)))
+        (sym (no-module (store names facts contexts orders heads) c s (stands .holds) n q place h));
+  }
+
+  -- the reply in the module found
+  pub reply-there : (r : Asked) → q < c .modules → AsksIn names facts contexts heads words q (c .fields) levels expr r
+      → Asks names facts contexts heads words c n levels expr r
+  reply-there r ended a = record {
+    reply = λ file fs s rs p orders refs declared stands.
+        a .reply file fs s rs c p orders refs declared stands ended refl
+        ∙ ap (λ (o : Option Module). andThen (andThen (orNoSuch o) (λ M. readIn s M levels (length levels) (expression .read expr))) (λ t. result (levelOf s levels t)))
+        (sym (found-module (store names facts contexts orders heads) c s (stands .holds) n q place ended));
+  }
+
+-- a query without causes 3 and 5 has at most three parameters
+pub few-given : (levels expr : List ℕ) → readingCause levels expr ≡ 0 → length levels ≤ width
+unfolding readingCause
+few-given levels expr z = go (wholeOf expr) (any (λ l. leb levelCount l) levels) (ltb maxArity (length levels)) (isPassed (limitAt expr 0)) z refl
+  where
+    go : (a b d l : Bool) → cond a (three b d l) 3 ≡ 0 → ltb maxArity (length levels) ≡ d → length levels ≤ width
+    go false b d l h e = absurd (omega arith)
+    go true true d l h e = absurd (omega arith)
+    go true false true l h e = absurd (omega arith)
+    go true false false l h e = omega (arith, ltb-false maxArity (length levels) e)
