@@ -1,7 +1,8 @@
 -- The levels of a card as digits.
 use mathlib.Core.List.{List, [], _∷_, _++_, append-nil, map}
 use mathlib.Core.Path.{_≡_, _∙_, ap, ap₂, refl, subst, sym}
-use Prim.Native.Nat.{ℕ, zero, suc, _+_, _-_, _^_, _≤_, _<_}
+use Prim.Native.Nat.{ℕ, zero, suc, _+_, _-_, _*_, _^_, _≤_, _<_}
+use native.Mathlib.Nat.{pow-le-pow-right, pow-suc}
 use native.Mathlib.Numerals.{add-one}
 use native.Mathlib.Omega.{arith}
 use mathlib.Core.Bool.{Bool, true, false}
@@ -88,17 +89,27 @@ module _ (n : ℕ) (f : Form) (card space : List ℕ) (few : n ≤ maxArity) (fu
   card-used size e =
       ap (map digit) (ap (take size) card-is ∙ take-at (usedEntries n (levelAt f)) (replicate (cardBytes - levelCount ^ n) 0) size (used-length n (levelAt f) ∙ sym e))
 
+-- "with n parameters 5ⁿ entries are used": one parameter more, five times as many; and never more than a card has
+pub used-turn : (n : ℕ) → levelCount ^ n * levelCount ≡ levelCount ^ (n + 1)
+used-turn n = rw (add-one, pow-suc)
+
+pub used-fits : (n : ℕ) → n ≤ maxArity → levelCount ^ n ≤ cardBytes
+used-fits n few = pow-le-pow-right {n = levelCount} (omega arith) {i = n} {j = maxArity} few
+
 -- what putting the levels of a card asks
-pub levels-asked : (n size : ℕ) (f : Form) (space card out : List ℕ) (at : ℕ) → n ≤ maxArity → length space ≡ cardBytes → (size ≡ levelCount ^ n) × (size ≤ cardBytes)
+pub levels-asked : (n size : ℕ) (f : Form) (space card out : List ℕ) (at : ℕ) → n ≤ maxArity → length space ≡ cardBytes → size ≡ levelCount ^ n
     → card ≡ paste space 0 (cardOf n (levelAt f)) cardBytes → at + cardBytes ≤ length out
     → ((i : ℕ) → getD card i 0 ≤ 4) × (size ≤ length card) × (at + size ≤ length out)
 levels-asked n size f space card out at few full s put room =
-    (card-levels n f card space few full put, omega (arith, s .1, card-size n f card space few full put), omega (arith, s .1))
+    let most = used-fits n few in
+    (card-levels n f card space few full put, omega (arith, most, s, card-size n f card space few full put), omega (arith, most, s))
 
 -- what the levels of a card lay down
-pub entries-put : (n size : ℕ) (f : Form) (space card out out′ : List ℕ) (at r : ℕ) → n ≤ maxArity → length space ≡ cardBytes → (size ≡ levelCount ^ n) × (size ≤ cardBytes)
+pub entries-put : (n size : ℕ) (f : Form) (space card out out′ : List ℕ) (at r : ℕ) → n ≤ maxArity → length space ≡ cardBytes → size ≡ levelCount ^ n
     → card ≡ paste space 0 (cardOf n (levelAt f)) cardBytes → Writes out out′ at (map digit (take size card)) r → Writes out out′ at (entries n (levelAt f)) r × (r ≤ at + cardBytes)
 entries-put n size f space card out out′ at r few full s put w =
-    let e = card-used n f card space few full put size (s .0) in
-    let l : length (map digit (take size card)) ≡ size = length-map (take size card) digit ∙ length-take-le size card (omega (arith, s .1, card-size n f card space few full put)) in
-    (writes-as w e, omega (arith, w .ends, s .1))
+    let e = card-used n f card space few full put size s in
+    let most = used-fits n few in
+    let l : length (map digit (take size card)) ≡ size =
+    length-map (take size card) digit ∙ length-take-le size card (omega (arith, most, s, card-size n f card space few full put)) in
+    (writes-as w e, omega (arith, w .ends, most, s))

@@ -14,18 +14,15 @@ use limits::Limits;
 // "with n parameters 5ⁿ entries are used"
 fn used(n: usize) -> usize
     requires { ⌜ n ≤ maxArity ⌝ }
-    ensures { λ r. ⌜ (r ≡ levelCount ^ n) × (r ≤ cardBytes) ⌝ }
+    ensures { λ r. ⌜ r ≡ levelCount ^ n ⌝ }
 {
-    if n == 0 {
-        return 1;
+    let mut r: usize = 1;
+    let mut i: usize = 0;
+    while i < n {
+        r = r * Limits::LEVELS;
+        i += 1;
     }
-    if n == 1 {
-        return 5;
-    }
-    if n == 2 {
-        return 25;
-    }
-    125
+    r
 }
 
 // The first n levels of a card as digits.

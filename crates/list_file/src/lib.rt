@@ -20,6 +20,13 @@ use limits::Limits;
 use lines::write_listing;
 use lines::write_refusal;
 
+pub struct Input;
+
+impl Input {
+    // Room for what a program reads: one byte more than a file may have, so that an input over the limit is seen to be so.
+    pub const ROOM: usize = Limits::FILE_BYTES + 1;
+}
+
 // The text of a reply.
 fn put_reply(reply: Reply, names: &[u16], facts: &[u16], words: &[u64], out: &mut [u8]) -> usize
     requires { ⌜ Few reply × (length (now words) ≡ tableWords) × (textRoom ≤ length (now out)) ⌝ }

@@ -1,8 +1,8 @@
 // Reads a file from standard input and prints its listing.
 use libc::STDIN_FILENO;
 use libc::STDOUT_FILENO;
-use limits::Limits;
 use lines::Room;
+use list_file::Input;
 
 // Prints the listing of a file.
 fn print_listing(file: &[u8]) {
@@ -11,9 +11,9 @@ fn print_listing(file: &[u8]) {
     io::write_all(STDOUT_FILENO, &out[..n]);
 }
 
-// One byte more than a file may have, so that an input over the limit is seen to be so; what comes after it is not read.
+// What comes after the room for an input is not read.
 fn main() {
-    let mut file = [0u8; Limits::FILE_BYTES + 1];
+    let mut file = [0u8; Input::ROOM];
     let n = io::read_full(STDIN_FILENO, &mut file);
     print_listing(&file[..n]);
 }

@@ -5,8 +5,8 @@ ghost use lib.ListN.{length};
 ghost use Rattle.lines.specs.Text.{textRoom};
 use libc::STDIN_FILENO;
 use libc::STDOUT_FILENO;
-use limits::Limits;
 use lines::Room;
+use list_file::Input;
 
 fn wide(x: u8) -> usize
     ensures { λ r. ⌜ r ≤ 255 ⌝ }
@@ -52,7 +52,7 @@ fn list_all(space: &mut [u8], out: &mut [u8])
 }
 
 fn main() {
-    let mut space = [0u8; Limits::FILE_BYTES + 1];
+    let mut space = [0u8; Input::ROOM];
     let mut out = [0u8; Room::TEXT];
     list_all(&mut space, &mut out);
 }

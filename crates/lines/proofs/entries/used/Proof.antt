@@ -1,25 +1,36 @@
--- `used`: the four powers.
-use borrow.Author.Needs.{needs}
-use mathlib.Core.Path.{_≡_, ap, sym}
-use Prim.Native.Nat.{ℕ, _^_}
+-- `used`: r is the power so far.
+use mathlib.Core.Path.{_≡_, refl, ap, _∙_}
+use Prim.Native.Nat.{ℕ, _+_, _-_, _*_, _^_, _≤_}
+use native.Mathlib.Omega.{arith}
 use Rattle.limits.specs.Limits.{levelCount}
+use Rattle.lines.proofs.Levels.{used-fits, used-turn}
 use Rattle.lines.proofs.entries.used.Statement.{statement}
 use Rattle.lines.proofs.entries.used.Tie as tie
 
-power-at : (n k : ℕ) → n ≡ k → levelCount ^ k ≡ levelCount ^ n
-power-at n k e = ap (λ (j : ℕ). levelCount ^ j) (sym e)
+abbrev Inv-loop : tie.InvT-loop
+Inv-loop n r₀ i₀ r i = (i ≤ n) × (r ≡ levelCount ^ i)
 
-returns : tie.Need-returns
-returns c = (power-at _ 0 (search needs), search needs)
+abbrev μ-loop : tie.MeasureT-loop
+μ-loop n r₀ i₀ r i = n - i
 
-returns-2 : tie.Need-returns-2
-returns-2 c = (power-at _ 1 (search needs), search needs)
+loop-holds : tie.Need-loop-holds Inv-loop μ-loop
+loop-holds c = (omega arith, refl)
 
-returns-3 : tie.Need-returns-3
-returns-3 c = (power-at _ 2 (search needs), search needs)
+mul-r : tie.Need-mul-r Inv-loop μ-loop
+mul-r c = omega (arith, used-turn (c .before .loop .i), used-fits (c .before .loop .i + 1) (omega arith))
 
-returns-4 : tie.Need-returns-4
-returns-4 c = (power-at _ 3 (search needs), search needs)
+add-i : tie.Need-add-i Inv-loop μ-loop
+add-i c = omega arith
+
+loop-less : tie.Need-loop-less Inv-loop μ-loop
+loop-less c = omega arith
+
+loop-again : tie.Need-loop-again Inv-loop μ-loop
+loop-again c = (omega arith, ap (λ (x : ℕ). x * levelCount) (c .before .loop .inv .1) ∙ used-turn (c .before .loop .i))
+
+returns : tie.Need-returns Inv-loop μ-loop
+returns c = c .before .loop .inv .1 ∙ ap (_^_ levelCount) (omega arith)
 
 pub used-spec : {M : Type 1} → statement M
-used-spec = tie.close (tie.spec returns returns-2 returns-3 returns-4)
+used-spec =
+    tie.close (tie.spec Inv-loop μ-loop loop-holds mul-r add-i loop-less loop-again returns)
