@@ -26,7 +26,7 @@ pub fn cause(number: u32) -> Option<&'static Cause> {
 pub const LEVELS: [&str; 5] = [
     "constant",
     "state",
-    "action",
+    "transition",
     "temporal",
     "not level-correct",
 ];
@@ -141,7 +141,7 @@ const CAUSES: [Cause; 18] = [
     Cause {
         title: "not level-correct: level 4 in a body, substitute or formula",
         meaning: "With its parameters at level 0 the expression puts something where its level is not \
-            taken: x'' primes an action, []x' is temporal over an action that is not of the form \
+            taken: x'' primes a transition, []x' is temporal over a transition that is not of the form \
             [A]_v. In TLA+ such an expression has no meaning.",
         example: Example::Text("---- MODULE M ----\nTHEOREM op0''\n"),
     },

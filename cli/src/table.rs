@@ -66,7 +66,7 @@ mod tests {
 
     #[test]
     fn shapes() {
-        assert_eq!(draw(&[], &[2]), "  2  action\n");
+        assert_eq!(draw(&[], &[2]), "  2  transition\n");
         assert_eq!(
             draw(&names(&["p"]), &[2, 2, 4, 4, 4]),
             "  p      0 1 2 3 4\n  level  2 2 4 4 4\n"

@@ -12,12 +12,12 @@ fn cards() {
     assert_eq!(
         example.text(),
         "n3(p0), definition 0, module n1\n\n  p0     0 1 2 3 4\n  level  2 2 4 4 4\n\n\
-         0 constant, 1 state, 2 action, 3 temporal, 4 not level-correct\n"
+         0 constant, 1 state, 2 transition, 3 temporal, 4 not level-correct\n"
     );
     let none = run(&["card", "samples/depth-lawful.tla", "Head!Sink"]);
     assert!(none
         .text()
-        .contains("Head!Sink, definition 6, module Panel\n\n  2  action\n"));
+        .contains("Head!Sink, definition 6, module Panel\n\n  2  transition\n"));
     let two = run(&["card", "samples/relation.tla", "Relation:Pred"]);
     assert!(two
         .text()

@@ -193,7 +193,7 @@ const TEXTS: [(&str, u32, u32, &[&str]); 24] = [
         "---- MODULE M ----\nVARIABLE x\nD == \\E z : \\A y : z = (x')'\n",
         12,
         2,
-        &["not level-correct", "' takes level 0 or 1", "level 2 (action)"],
+        &["not level-correct", "' takes level 0 or 1", "level 2 (transition)"],
     ),
     (
         "---- MODULE M ----\nVARIABLE x\nTHEOREM \\EE z : <>z /\\ [](z')\n",
