@@ -38,8 +38,9 @@ fieldCode field = maxDefinitions + field
 -- definition    parameter count          body's start        body's length      instance name or 0 number it came from    field that brought it + 1, or 0
 -- CONSTANT      argument count           its number          0                  0                  0                      0
 -- VARIABLE      variableKind             its number          0                  0                  0                      0
--- INSTANCE      instanceKind + params    first brought       how many           module's number    first substitution at  substitutions
--- An own definition comes from its own number. Declarations are numbered from 0 through the whole file.
+-- INSTANCE      instanceKind + params    first brought       how many           module's number    first substitution at  substitutions, and the field's module
+-- An own definition comes from its own number. The last of an INSTANCE field is the number of its substitutions + 256 × the module that it stands in.
+-- Declarations are numbered from 0 through the whole file.
 abbrev pub kindAt : List ℕ → ℕ → ℕ
 kindAt facts o = getD facts (columnCount * o) 0
 

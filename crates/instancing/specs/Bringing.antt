@@ -41,7 +41,8 @@ instanceNoted m o name r v =
     store (set (v .names) o name) (stored (v .facts) o r) (cond (eqb name 0) (v .contexts) (withCode (v .contexts) (v .heads) m o)) (v .orders)
     (cond (eqb name 0) (v .heads) (longer (v .heads) (contextSlot m)))
 
--- an INSTANCE field: its name or 0, its parameter count, the number of the module instanced, where its first substitution stands, how many
+-- an INSTANCE field: its name or 0, its parameter count, the number of the module instanced, where its first substitution stands, and how many
+-- there are with the module that the field stands in, as one number
 abbrev pub instanceRow : ℕ → ℕ → ℕ → ℕ → ℕ → ℕ → Row
 instanceRow p first count q at written = row (instanceKind + p) first count q at written
 
