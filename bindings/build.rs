@@ -1,4 +1,4 @@
-//! Links the proved checker's static library, libchecker.a.
+//! Links the proved checker's static library, librafterclary.a.
 
 use std::env;
 
@@ -7,8 +7,8 @@ const DIRECTORY: &str = "RAFTERCLARY_LIB_DIR";
 fn main() {
     println!("cargo:rerun-if-env-changed={DIRECTORY}");
     let directory = env::var(DIRECTORY)
-        .unwrap_or_else(|_| panic!("{DIRECTORY} must name the directory of libchecker.a"));
-    println!("cargo:rerun-if-changed={directory}/libchecker.a");
+        .unwrap_or_else(|_| panic!("{DIRECTORY} must name the directory of librafterclary.a"));
+    println!("cargo:rerun-if-changed={directory}/librafterclary.a");
     println!("cargo:rustc-link-search=native={directory}");
-    println!("cargo:rustc-link-lib=static=checker");
+    println!("cargo:rustc-link-lib=static=rafterclary");
 }

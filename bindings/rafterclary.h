@@ -1,10 +1,15 @@
-/* The proved level checker, libchecker.a (`rt staticlib checker`).
+/* The proved level checker, librafterclary.a (`rt staticlib rafterclary`).
  *
  * A slice is a pointer and a length; the pointer may be anything, but not null, where the length
- * is 0. Lent memory must not overlap the file. It is written only as paper 01 says: by a check,
- * the first 32,000 bytes at most. A call needs about 0.8 MB of native stack for its tables.
+ * is 0. Lent memory must not overlap what is only read. It is written only as paper 01 says: the
+ * card memory, and of that the first 32,000 bytes at most. A call needs about 0.8 MB of native
+ * stack for its tables.
  *
- * A reply is a value, or 2^31 + 65,536 * number + place for a refusal. */
+ * Every call checks the file afresh and fills the card memory, as a check does: an accepted
+ * file's cards are there after a query too, whether it is answered or refused.
+ *
+ * A reply is a value, or 2^31 + 65,536 * number + place for a refusal; that of a body has 64 bits
+ * and macros of its own. */
 #ifndef RAFTERCLARY_H
 #define RAFTERCLARY_H
 
@@ -26,6 +31,28 @@ extern "C" {
  * each, in the card memory; a refusal other than 1 leaves zeros in its first 32,000 bytes. */
 uint32_t rafterclary_check(const uint8_t *file, size_t file_length, uint8_t *cards,
                            size_t cards_length);
+
+/* The level of an expression at the end of a module, 0 to 4 (4: not level-correct), with the
+ * parameters at the levels given, one byte each. An expression may have any length. The place of
+ * a refusal of the expression or the levels is the number of the file's fields. */
+uint32_t rafterclary_level(const uint8_t *file, size_t file_length, uint8_t *cards,
+                           size_t cards_length, uint16_t module, const uint8_t *expression,
+                           size_t expression_length, const uint8_t *levels, size_t levels_length);
+
+/* Whether two definitions, given by their numbers, are alike: 1 if they are, 0 if not. */
+uint32_t rafterclary_alike(const uint8_t *file, size_t file_length, uint8_t *cards,
+                           size_t cards_length, uint32_t a, uint32_t b);
+
+/* The part of the file that holds the body of a definition, for a brought one the original's:
+ * 65,536 * start + length, or 2^63 + 65,536 * number + place. */
+uint64_t rafterclary_body(const uint8_t *file, size_t file_length, uint8_t *cards,
+                          size_t cards_length, uint32_t definition);
+
+#define RAFTERCLARY_BODY_IS_REFUSAL(reply) ((reply) >> 63)
+#define RAFTERCLARY_BODY_NUMBER(reply) ((uint32_t)(((reply) >> 16) & 0x7fffu))
+#define RAFTERCLARY_BODY_PLACE(reply) ((uint32_t)((reply) & 0xffffu))
+#define RAFTERCLARY_BODY_START(reply) ((size_t)((reply) >> 16))
+#define RAFTERCLARY_BODY_LENGTH(reply) ((size_t)((reply) & 0xffffu))
 
 #ifdef __cplusplus
 }

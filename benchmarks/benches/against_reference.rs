@@ -52,7 +52,7 @@ fn sample(
     let _ = fs::remove_file(&estimates);
 
     let mut group = criterion.benchmark_group(group_name);
-    group.throughput(Throughput::Bytes(input.family.file.len() as u64));
+    group.throughput(Throughput::Bytes(input.family.bytes() as u64));
     group.warm_up_time(Duration::from_millis(300));
     group.measurement_time(Duration::from_secs(1));
     group.nresamples(20_000);

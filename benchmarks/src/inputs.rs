@@ -62,13 +62,10 @@ fn check(label: String, file: Vec<u8>) -> Family {
 
 /// Every input that both sides answer.
 pub fn all() -> Vec<Input> {
-    let queries = [ARCHIVE, REFERENCE].map(|side| side.queries().is_some()) == [true; 2];
     let of = |group| move |family| Input { group, family };
     let mut hostile = families::checks();
     hostile.push(names_looked_up());
-    if queries {
-        hostile.extend(families::queries(false));
-    }
+    hostile.extend(families::queries(true));
     // By the letters of the families.
     hostile.sort_by_key(|family| family.label.chars().next());
     let usual = families::usual().into_iter();
@@ -81,7 +78,11 @@ pub fn all() -> Vec<Input> {
     all.extend(growing.map(of(Group::Growth)));
     let scans = [1_024, 8_192, LARGEST].into_iter().flat_map(scans);
     all.extend(scans.map(of(Group::Scan)));
-    all.retain(|input| queries || input.family.call == Call::Check);
+    let answered = |family: &Family| {
+        let mut sides = [ARCHIVE, REFERENCE].into_iter();
+        sides.all(|side| family.is_answered_by(side))
+    };
+    all.retain(|input| answered(&input.family));
     all
 }
 

@@ -1,6 +1,9 @@
-//! The proved level checker for TLA+ modules, as a safe function over its static library.
+//! The proved level checker for TLA+ modules, as safe functions over its static library.
 //!
-//! Nothing is decided here: the library's reply is taken apart, and that is all.
+//! Nothing is decided here: the library's replies are taken apart, and that is all. Every call
+//! checks the file afresh and fills the card memory, as a check does.
+
+use std::ops::Range;
 
 mod linked {
     extern "C" {
@@ -10,6 +13,35 @@ mod linked {
             cards: *mut u8,
             cards_length: usize,
         ) -> u32;
+
+        pub fn rafterclary_level(
+            file: *const u8,
+            file_length: usize,
+            cards: *mut u8,
+            cards_length: usize,
+            module: u16,
+            expression: *const u8,
+            expression_length: usize,
+            levels: *const u8,
+            levels_length: usize,
+        ) -> u32;
+
+        pub fn rafterclary_alike(
+            file: *const u8,
+            file_length: usize,
+            cards: *mut u8,
+            cards_length: usize,
+            a: u32,
+            b: u32,
+        ) -> u32;
+
+        pub fn rafterclary_body(
+            file: *const u8,
+            file_length: usize,
+            cards: *mut u8,
+            cards_length: usize,
+            definition: u32,
+        ) -> u64;
     }
 }
 
@@ -19,30 +51,122 @@ pub const CARD_MEMORY: usize = 32_000;
 /// The bytes of one card.
 pub const CARD: usize = 125;
 
-/// A file is refused: by what cause, numbered as in paper 01, and at which field, counted from 0.
+/// A call is refused: by what cause, numbered as in paper 01, and at which field, counted from 0.
+/// For a query's expression and its levels the place is the number of fields.
 #[derive(Clone, Copy, Debug, PartialEq, Eq)]
 pub struct Refusal {
     pub number: u32,
     pub place: u32,
 }
 
-/// The library's reply as it is: a value, or 2³¹ + 65,536 · number + place.
+impl Refusal {
+    /// From 65,536 · number + place.
+    fn packed(packed: u64) -> Refusal {
+        Refusal {
+            number: (packed >> 16) as u32,
+            place: (packed & 0xFFFF) as u32,
+        }
+    }
+}
+
+/// A value, or 2³¹ + 65,536 · number + place.
+fn reply(packed: u32) -> Result<u32, Refusal> {
+    match packed.checked_sub(1 << 31) {
+        None => Ok(packed),
+        Some(refused) => Err(Refusal::packed(refused.into())),
+    }
+}
+
+// In each call below the pointers and lengths are those of live slices, the lent one exclusive,
+// and the library keeps none of them.
+
+/// The library's reply to a check as it is.
 pub fn check_packed(file: &[u8], cards: &mut [u8]) -> u32 {
-    // The pointers and lengths are those of live slices, the lent one exclusive, and the library
-    // keeps none of them.
     unsafe { linked::rafterclary_check(file.as_ptr(), file.len(), cards.as_mut_ptr(), cards.len()) }
+}
+
+/// The library's reply to a level query as it is.
+pub fn level_packed(
+    file: &[u8],
+    cards: &mut [u8],
+    module: u16,
+    expression: &[u8],
+    levels: &[u8],
+) -> u32 {
+    unsafe {
+        linked::rafterclary_level(
+            file.as_ptr(),
+            file.len(),
+            cards.as_mut_ptr(),
+            cards.len(),
+            module,
+            expression.as_ptr(),
+            expression.len(),
+            levels.as_ptr(),
+            levels.len(),
+        )
+    }
+}
+
+/// The library's reply to whether two definitions are alike, as it is.
+pub fn alike_packed(file: &[u8], cards: &mut [u8], a: u32, b: u32) -> u32 {
+    unsafe {
+        linked::rafterclary_alike(
+            file.as_ptr(),
+            file.len(),
+            cards.as_mut_ptr(),
+            cards.len(),
+            a,
+            b,
+        )
+    }
+}
+
+/// The library's reply to where a body stands, as it is.
+pub fn body_packed(file: &[u8], cards: &mut [u8], definition: u32) -> u64 {
+    unsafe {
+        linked::rafterclary_body(
+            file.as_ptr(),
+            file.len(),
+            cards.as_mut_ptr(),
+            cards.len(),
+            definition,
+        )
+    }
 }
 
 /// Checks a file: the number of its definitions, whose cards are then in the card memory, 125
 /// bytes each.
 pub fn check(file: &[u8], cards: &mut [u8]) -> Result<u32, Refusal> {
-    let reply = check_packed(file, cards);
-    match reply.checked_sub(1 << 31) {
-        None => Ok(reply),
-        Some(packed) => Err(Refusal {
-            number: packed >> 16,
-            place: packed & 0xFFFF,
-        }),
+    reply(check_packed(file, cards))
+}
+
+/// The level of an expression at the end of a module, from 0 to 4, with its parameters at the
+/// levels given. An expression may have any length.
+pub fn level(
+    file: &[u8],
+    cards: &mut [u8],
+    module: u16,
+    expression: &[u8],
+    levels: &[u8],
+) -> Result<u8, Refusal> {
+    reply(level_packed(file, cards, module, expression, levels)).map(|level| level as u8)
+}
+
+/// Whether two definitions are alike: parameter counts and cards agree.
+pub fn alike(file: &[u8], cards: &mut [u8], a: u32, b: u32) -> Result<bool, Refusal> {
+    reply(alike_packed(file, cards, a, b)).map(|alike| alike == 1)
+}
+
+/// The part of the file that holds the body of a definition, for a brought one the original's.
+pub fn body(file: &[u8], cards: &mut [u8], definition: u32) -> Result<Range<usize>, Refusal> {
+    let packed = body_packed(file, cards, definition);
+    match packed.checked_sub(1 << 63) {
+        None => {
+            let (start, length) = ((packed >> 16) as usize, (packed & 0xFFFF) as usize);
+            Ok(start..start + length)
+        }
+        Some(refused) => Err(Refusal::packed(refused)),
     }
 }
 
@@ -55,26 +179,93 @@ mod tests {
         0x01, 0x00, 0x02, 0x00, 0x01, 0x04, 0x00, 0x02, 0x00, 0x02, 0x05, 0x00, 0x07, 0x00, 0x03,
         0x01, 0x04, 0x70, 0x00, 0x00, 0x07, 0x00, 0x00,
     ];
+    /// Its fields.
+    const FIELDS: u32 = 4;
+    /// The variable.
+    const X: [u8; 4] = [2, 0, 2, 0];
+
+    fn memory() -> Vec<u8> {
+        vec![7; CARD_MEMORY + 1]
+    }
+
+    fn refused<T>(number: u32, place: u32) -> Result<T, Refusal> {
+        Err(Refusal { number, place })
+    }
+
+    fn filled(cards: &[u8]) -> bool {
+        cards[..6] == [2, 2, 4, 4, 4, 0] && cards[CARD..].iter().all(|&byte| byte == 7)
+    }
+
+    fn cleared(cards: &[u8]) -> bool {
+        cards[..CARD_MEMORY].iter().all(|&byte| byte == 0) && cards[CARD_MEMORY] == 7
+    }
 
     #[test]
     fn example() {
-        let mut cards = vec![7; CARD_MEMORY + 1];
+        let mut cards = memory();
         assert_eq!(check(&EXAMPLE, &mut cards), Ok(1));
-        assert_eq!(cards[..6], [2, 2, 4, 4, 4, 0]);
+        assert!(filled(&cards));
         assert!(cards[5..CARD].iter().all(|&entry| entry == 0));
-        assert!(cards[CARD..].iter().all(|&byte| byte == 7));
     }
 
     #[test]
     fn refusals() {
-        let mut cards = vec![7; CARD_MEMORY + 1];
-        let refused = |number, place| Err(Refusal { number, place });
+        let mut cards = memory();
         assert_eq!(check(&EXAMPLE[..20], &mut cards), refused(4, 3));
-        assert!(cards[..CARD_MEMORY].iter().all(|&byte| byte == 0));
-        assert_eq!(cards[CARD_MEMORY], 7);
+        assert!(cleared(&cards));
         assert_eq!(check(&[], &mut cards), refused(2, 0));
         let mut short = [7; CARD_MEMORY - 1];
         assert_eq!(check(&EXAMPLE, &mut short), refused(1, 0));
+        assert!(short.iter().all(|&byte| byte == 7));
+    }
+
+    #[test]
+    fn levels() {
+        let ask = |module, expression: &[u8], levels: &[u8]| {
+            let mut cards = memory();
+            let reply = level(&EXAMPLE, &mut cards, module, expression, levels);
+            assert!(filled(&cards));
+            reply
+        };
+        assert_eq!(ask(1, &X, &[]), Ok(1));
+        let defined = [&[2, 0, 3, 1][..], &X].concat();
+        assert_eq!(ask(1, &defined, &[]), Ok(2));
+        let twice = [&[2, 0, 3, 1][..], &defined].concat();
+        assert_eq!(ask(1, &twice, &[]), Ok(4));
+        for (given, expected) in [(0, 2), (1, 2), (2, 4), (4, 4)] {
+            assert_eq!(ask(1, &[2, 0, 3, 1, 0, 0], &[given]), Ok(expected));
+        }
+        assert_eq!(ask(2, &X, &[]), refused(17, 0));
+        assert_eq!(ask(1, &[], &[]), refused(3, FIELDS));
+        assert_eq!(ask(1, &X, &[5, 0, 0, 0]), refused(3, FIELDS));
+        assert_eq!(ask(1, &X, &[0; 4]), refused(5, FIELDS));
+        assert_eq!(ask(1, &[0, 0], &[]), refused(9, FIELDS));
+        assert_eq!(ask(1, &[2, 0, 3, 0], &[]), refused(10, FIELDS));
+    }
+
+    #[test]
+    fn likeness_and_bodies() {
+        let mut cards = memory();
+        assert_eq!(alike(&EXAMPLE, &mut cards, 0, 0), Ok(true));
+        assert!(filled(&cards));
+        assert_eq!(alike(&EXAMPLE, &mut cards, 0, 1), refused(17, 0));
+        assert_eq!(body(&EXAMPLE, &mut cards, 0), Ok(16..20));
+        assert_eq!(body(&EXAMPLE, &mut cards, 1), refused(17, 0));
+        assert!(filled(&cards));
+    }
+
+    #[test]
+    fn the_file_comes_first() {
+        let mut cards = memory();
+        assert_eq!(
+            level(&EXAMPLE[..20], &mut cards, 9, &[], &[9]),
+            refused(4, 3)
+        );
+        assert!(cleared(&cards));
+        assert_eq!(alike(&[], &mut cards, 9, 9), refused(2, 0));
+        assert_eq!(body(&EXAMPLE[..20], &mut cards, 9), refused(4, 3));
+        let mut short = [7; CARD_MEMORY - 1];
+        assert_eq!(body(&EXAMPLE, &mut short, 0), refused(1, 0));
         assert!(short.iter().all(|&byte| byte == 7));
     }
 }

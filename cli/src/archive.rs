@@ -1,6 +1,7 @@
 //! The proved archive.
 
 pub use checker::{Refusal, CARD};
+use std::ops::Range;
 
 /// The cards of an accepted file.
 pub struct Cards {
@@ -17,9 +18,28 @@ impl Cards {
     }
 }
 
+fn memory() -> Vec<u8> {
+    vec![0; checker::CARD_MEMORY]
+}
+
 /// Checks a file.
 pub fn check(file: &[u8]) -> Result<Cards, Refusal> {
-    let mut memory = vec![0; checker::CARD_MEMORY];
+    let mut memory = memory();
     let count = checker::check(file, &mut memory)? as usize;
     Ok(Cards { memory, count })
+}
+
+/// The level of an expression at the end of a module.
+pub fn level(file: &[u8], module: u16, expression: &[u8], levels: &[u8]) -> Result<u8, Refusal> {
+    checker::level(file, &mut memory(), module, expression, levels)
+}
+
+/// Whether two definitions are alike.
+pub fn alike(file: &[u8], a: u32, b: u32) -> Result<bool, Refusal> {
+    checker::alike(file, &mut memory(), a, b)
+}
+
+/// The part of the file that holds a definition's body.
+pub fn body(file: &[u8], definition: u32) -> Result<Range<usize>, Refusal> {
+    checker::body(file, &mut memory(), definition)
 }

@@ -8,7 +8,10 @@ Examples:
   rafterclary check panel.bin              accepted or refused, and why
   rafterclary check samples/*.bin          one line for each file
   parser panel | rafterclary check         a tagged file from a pipe
-  rafterclary card panel.tla Head!Depth    a definition's card as a table
+  rafterclary card panel.tla 'Head!Depth'  a definition's card as a table
+  rafterclary level panel.tla Panel \"scale + p\" p=1
+  rafterclary alike panel.bin 0 7          whether two definitions have one card
+  rafterclary body panel.bin 7             the bytes that hold a definition's body
   rafterclary list --json panel.bin        every card, for a script
   rafterclary convert panel.tla -o panel.bin
   rafterclary explain 14                   what refusal 14 means
@@ -17,6 +20,32 @@ A FILE is a tagged file; if its name ends in .tla it is text in the readable not
 converted first. `-` is standard input. `--as` overrides the ending.
 
 Exit status: 0 accepted, 1 refused, 2 misuse (bad arguments, a file that cannot be read).";
+
+const LEVEL_EXAMPLES: &str = "\
+Examples:
+  rafterclary level samples/depth-lawful.tla Panel 'Head!Sink'
+  rafterclary level samples/trial-levels.tla Trial \"G(p, q)\" p=transition q=temporal
+  rafterclary level samples/example.bin 1 \"n3(p0)\" 2
+  rafterclary level samples/example.bin 1 --hex \"02 0003 01 02 0002 00\"
+
+The reply is 0 constant, 1 state, 2 transition, 3 temporal or 4 not level-correct; 4 is an
+ordinary reply. Names without a spelling are n1, n2 and so on.
+
+Exit status: 0 answered, 1 refused, 2 misuse.";
+
+const ALIKE_EXAMPLES: &str = "\
+Examples:
+  rafterclary alike samples/depth-lawful.tla Depth:Sink 'Head!Sink'
+  rafterclary alike samples/channel.bin 0 7
+
+Exit status: 0 answered, alike or not; 1 refused, 2 misuse.";
+
+const BODY_EXAMPLES: &str = "\
+Examples:
+  rafterclary body samples/depth-lawful.tla 'Head!Sink'
+  rafterclary body --json samples/channel.bin 50
+
+Exit status: 0 answered, 1 refused, 2 misuse.";
 
 /// The proved level checker for TLA+ modules.
 #[derive(Parser)]
@@ -88,6 +117,37 @@ pub enum Command {
     Card {
         file: PathBuf,
         /// Its number, or NAME or INSTANCE!NAME, with MODULE: before it where several have the name
+        definition: String,
+    },
+    /// Tell the level of an expression at the end of a module
+    #[command(after_help = LEVEL_EXAMPLES)]
+    Level {
+        file: PathBuf,
+        /// The module's name, or its number
+        module: String,
+        /// In the readable notation, over the names of the module and of the parameters
+        expression: String,
+        /// A level for each parameter: NAME=LEVEL, or LEVEL alone for p0, p1 and p2 in turn
+        #[arg(value_name = "LEVEL")]
+        levels: Vec<String>,
+        /// The expression is given as bytes in hexadecimal
+        #[arg(long)]
+        hex: bool,
+    },
+    /// Tell whether two definitions are alike: as many parameters, and the same card
+    #[command(after_help = ALIKE_EXAMPLES)]
+    Alike {
+        file: PathBuf,
+        /// Number or name, as of `card`
+        first: String,
+        /// Number or name, as of `card`
+        second: String,
+    },
+    /// Print the part of the file that holds a definition's body, for a brought one the original's
+    #[command(after_help = BODY_EXAMPLES)]
+    Body {
+        file: PathBuf,
+        /// Number or name, as of `card`
         definition: String,
     },
     /// Show a file as readable modules, with field numbers and offsets

@@ -5,6 +5,7 @@
 
 #![forbid(unsafe_code)]
 
+mod answers;
 mod archive;
 mod args;
 mod causes;
@@ -15,6 +16,7 @@ mod input;
 mod json;
 mod outline;
 mod probe;
+mod question;
 mod source;
 mod table;
 

@@ -21,29 +21,20 @@ fn bytes(fields: &[Field]) -> Option<Vec<u8>> {
     notation::encode(&file).ok()
 }
 
-/// The level, with parameters at 0, of an expression that stands after these fields of a module.
-/// The archive is given the fields with a definition of that body; `None` if it finds another
-/// fault than the level, a limit above all.
+/// The level, with parameters at 0, of an expression that stands after these fields of a module;
+/// `None` if the archive finds a fault in it.
 pub fn level(before: &[Field], parameters: u8, body: &Expr) -> Option<u8> {
-    let mut fields = before.to_vec();
-    let name = unused(before, body, 0)?;
-    fields.push(Field::Definition {
-        name,
-        parameters,
-        body: body.clone(),
-    });
-    fields.push(Field::End);
-    match archive::check(&bytes(&fields)?) {
-        Ok(cards) => Some(cards.entries(cards.count.checked_sub(1)?, parameters)[0]),
-        Err(refused) => {
-            let here = refused.number == 12 && refused.place as usize == before.len();
-            here.then_some(4)
-        }
-    }
+    let module = before.iter().rev().find_map(|field| match field {
+        Field::Module { name } => Some(*name),
+        _ => None,
+    })?;
+    let fields = [before, &[Field::End]].concat();
+    let levels = vec![0; usize::from(parameters)];
+    archive::level(&bytes(&fields)?, module, &body.encode(), &levels).ok()
 }
 
-/// An operator name that nothing uses, the first or a later one.
-fn unused(fields: &[Field], body: &Expr, skip: usize) -> Option<u16> {
+/// An operator name that nothing uses.
+pub fn unused(fields: &[Field], body: &Expr) -> Option<u16> {
     let mut used = vec![false; 65_536];
     used[0] = true;
     for field in fields {
@@ -59,9 +50,7 @@ fn unused(fields: &[Field], body: &Expr, skip: usize) -> Option<u16> {
             _ => {}
         }
     }
-    (1..=u16::MAX)
-        .filter(|&name| !used[usize::from(name)])
-        .nth(skip)
+    (1..=u16::MAX).find(|&name| !used[usize::from(name)])
 }
 
 /// The innermost expression at level 4.
@@ -115,7 +104,7 @@ fn opened(before: &[Field], whole: &Expr) -> (Vec<Expr>, Option<u16>) {
         return (arguments, None);
     }
     let variable = (code >= codes::TEMPORAL_BINDERS)
-        .then(|| unused(before, whole, 0))
+        .then(|| unused(before, whole))
         .flatten();
     let instead = match variable {
         Some(name) => Token::Name { name, arguments: 0 },

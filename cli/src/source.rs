@@ -22,6 +22,13 @@ impl Source {
         Source { text, starts, end }
     }
 
+    /// The text of one field alone, after others that have none.
+    pub fn of_field(text: String, field: usize) -> Source {
+        let starts = vec![0; field + 1];
+        let end = text.len();
+        Source { text, starts, end }
+    }
+
     /// Where a field begins; after the last field, where the text ends.
     pub fn start(&self, field: usize) -> usize {
         *self.starts.get(field).unwrap_or(&self.end)

@@ -1,6 +1,6 @@
 //! One call of a checker with all the memory it is lent, and what comes back.
 
-use crate::checker::{body_refusal, refusal, Checker};
+use crate::checker::{body_refusal, refusal, Checker, Offer};
 use crate::syntax::{self, hex, Expr};
 use std::fmt::{self, Display, Formatter};
 
@@ -27,6 +27,47 @@ pub enum Call {
     Body {
         d: u32,
     },
+}
+
+impl Call {
+    /// What a checker has to offer to be asked this.
+    pub fn wants(&self) -> Offer {
+        match self {
+            Call::Check => Offer::Checks,
+            Call::Level { .. } | Call::Alike { .. } | Call::Body { .. } => Offer::Queries,
+            Call::Expand { .. } => Offer::Expansions,
+        }
+    }
+
+    /// Makes this call: the packed reply. A checker is asked only what it offers.
+    pub fn make(
+        &self,
+        checker: &dyn Checker,
+        file: &[u8],
+        cards: &mut [u8],
+        out: &mut [u8],
+    ) -> u64 {
+        let queries = || checker.queries().expect("queries are offered");
+        let expansions = || queries().expansions().expect("expansions are offered");
+        match self {
+            Call::Check => checker.check(file, cards).into(),
+            Call::Level {
+                module,
+                expr,
+                levels,
+            } => queries().level(file, cards, *module, expr, levels).into(),
+            Call::Expand {
+                module,
+                expr,
+                params,
+                ..
+            } => expansions()
+                .expand(file, cards, *module, expr, *params, out)
+                .into(),
+            Call::Alike { a, b } => queries().alike(file, cards, *a, *b).into(),
+            Call::Body { d } => queries().body(file, cards, *d),
+        }
+    }
 }
 
 /// A call on a file, with card memory of some length that holds a pattern.
@@ -95,28 +136,7 @@ impl Case {
     pub fn run(&self, checker: &dyn Checker) -> Outcome {
         let mut cards = self.lent_cards();
         let mut out = self.lent_output();
-        let file = &self.file[..];
-        let queries = || {
-            checker
-                .queries()
-                .expect("queries go to a checker that answers them")
-        };
-        let reply = match &self.call {
-            Call::Check => checker.check(file, &mut cards) as u64,
-            Call::Level {
-                module,
-                expr,
-                levels,
-            } => queries().level(file, &mut cards, *module, expr, levels) as u64,
-            Call::Expand {
-                module,
-                expr,
-                params,
-                ..
-            } => queries().expand(file, &mut cards, *module, expr, *params, &mut out) as u64,
-            Call::Alike { a, b } => queries().alike(file, &mut cards, *a, *b) as u64,
-            Call::Body { d } => queries().body(file, &mut cards, *d),
-        };
+        let reply = self.call.make(checker, &self.file, &mut cards, &mut out);
         Outcome { reply, cards, out }
     }
 

@@ -14,6 +14,16 @@ pub trait Checker {
 /// The operations beside the check.
 pub trait Queries {
     fn level(&self, file: &[u8], cards: &mut [u8], module: u16, expr: &[u8], levels: &[u8]) -> u32;
+    fn alike(&self, file: &[u8], cards: &mut [u8], a: u32, b: u32) -> u32;
+    fn body(&self, file: &[u8], cards: &mut [u8], d: u32) -> u64;
+    /// The expansions, if this checker offers them.
+    fn expansions(&self) -> Option<&dyn Expansions> {
+        None
+    }
+}
+
+/// The operation that writes an expansion.
+pub trait Expansions {
     fn expand(
         &self,
         file: &[u8],
@@ -23,8 +33,25 @@ pub trait Queries {
         params: u8,
         out: &mut [u8],
     ) -> u32;
-    fn alike(&self, file: &[u8], cards: &mut [u8], a: u32, b: u32) -> u32;
-    fn body(&self, file: &[u8], cards: &mut [u8], d: u32) -> u64;
+}
+
+/// What a checker can be asked, each with all before it.
+#[derive(Clone, Copy, Debug, PartialEq, Eq, PartialOrd, Ord)]
+pub enum Offer {
+    Checks,
+    Queries,
+    Expansions,
+}
+
+impl dyn Checker + '_ {
+    /// What this checker can be asked.
+    pub fn offer(&self) -> Offer {
+        match self.queries() {
+            None => Offer::Checks,
+            Some(queries) if queries.expansions().is_none() => Offer::Queries,
+            Some(_) => Offer::Expansions,
+        }
+    }
 }
 
 /// The mark of a refusal in a packed reply.
@@ -71,6 +98,20 @@ impl Queries for Reference {
         reference::packed_level(file, cards, module, expr, levels)
     }
 
+    fn alike(&self, file: &[u8], cards: &mut [u8], a: u32, b: u32) -> u32 {
+        reference::packed_alike(file, cards, a, b)
+    }
+
+    fn body(&self, file: &[u8], cards: &mut [u8], d: u32) -> u64 {
+        reference::packed_body(file, cards, d)
+    }
+
+    fn expansions(&self) -> Option<&dyn Expansions> {
+        Some(self)
+    }
+}
+
+impl Expansions for Reference {
     fn expand(
         &self,
         file: &[u8],
@@ -81,13 +122,5 @@ impl Queries for Reference {
         out: &mut [u8],
     ) -> u32 {
         reference::packed_expand(file, cards, module, expr, params, out)
-    }
-
-    fn alike(&self, file: &[u8], cards: &mut [u8], a: u32, b: u32) -> u32 {
-        reference::packed_alike(file, cards, a, b)
-    }
-
-    fn body(&self, file: &[u8], cards: &mut [u8], d: u32) -> u64 {
-        reference::packed_body(file, cards, d)
     }
 }

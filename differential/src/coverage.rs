@@ -1,6 +1,7 @@
 //! Counts of what occurred in a run, and what has to occur.
 
 use crate::cases::{Call, Case, Outcome};
+use crate::checker::Offer;
 use crate::faults;
 use crate::limits;
 use crate::model::{Meaning, Model, Module, Operator, Scope};
@@ -168,10 +169,14 @@ const QUERIES: [&str; 48] = [
     "body refused 17",
 ];
 
-/// Whatever has to occur.
-pub fn required(queries: bool) -> Vec<(Section, String)> {
+/// Whatever has to occur in a run of what is asked.
+pub fn required(asked: Offer) -> Vec<(Section, String)> {
     let mut all = Vec::new();
-    let last = if queries { 18 } else { 16 };
+    let last = match asked {
+        Offer::Checks => 16,
+        Offer::Queries => 17,
+        Offer::Expansions => 18,
+    };
     all.extend((1..=last).map(|cause| (Section::Cause, cause.to_string())));
     all.extend(CONSTRUCTS.map(|what| (Section::Construct, what.to_string())));
     let plans = faults::plans();
@@ -179,8 +184,12 @@ pub fn required(queries: bool) -> Vec<(Section, String)> {
     all.extend(limits::labels().into_iter().map(|l| (Section::Limit, l)));
     let substitutes = substitutes::labels().into_iter();
     all.extend(substitutes.map(|label| (Section::Substitute, label)));
-    if queries {
-        all.extend(QUERIES.map(|what| (Section::Query, what.to_string())));
+    if asked > Offer::Checks {
+        let kinds = QUERIES.iter().filter(|what| {
+            let expansion = what.starts_with("expand");
+            !expansion || asked == Offer::Expansions
+        });
+        all.extend(kinds.map(|what| (Section::Query, what.to_string())));
     }
     all
 }
@@ -196,8 +205,8 @@ impl Coverage {
     }
 
     /// What has to occur and did not.
-    pub fn missing(&self, queries: bool) -> Vec<String> {
-        required(queries)
+    pub fn missing(&self, asked: Offer) -> Vec<String> {
+        required(asked)
             .into_iter()
             .filter(|key| !self.counts.contains_key(key))
             .map(|(section, what)| format!("{section:?}: {what}"))

@@ -32,34 +32,28 @@ impl Default for Memory {
 }
 
 impl Family {
-    /// Whether this checker answers the call.
+    /// The bytes that a call reads: the file's, and those of a query's expression.
+    pub fn bytes(&self) -> usize {
+        let asked = match &self.call {
+            Call::Level { expr, .. } | Call::Expand { expr, .. } => expr.len(),
+            _ => 0,
+        };
+        self.file.len() + asked
+    }
+
+    /// Whether this checker offers the call.
     pub fn is_answered_by(&self, checker: &dyn Checker) -> bool {
-        matches!(self.call, Call::Check) || checker.queries().is_some()
+        self.call.wants() <= checker.offer()
     }
 
     /// The packed reply. A clock around this times the checker alone: nothing is allocated here.
     pub fn call(&self, checker: &dyn Checker, memory: &mut Memory) -> u64 {
-        let (file, cards) = (&self.file[..], &mut memory.cards[..]);
-        let queries = || checker.queries().expect("queries are answered");
-        match &self.call {
-            Call::Check => checker.check(file, cards) as u64,
-            Call::Level {
-                module,
-                expr,
-                levels,
-            } => queries().level(file, cards, *module, expr, levels) as u64,
-            Call::Expand {
-                module,
-                expr,
-                params,
-                room,
-            } => {
-                let out = &mut memory.out[..*room];
-                queries().expand(file, cards, *module, expr, *params, out) as u64
-            }
-            Call::Alike { a, b } => queries().alike(file, cards, *a, *b) as u64,
-            Call::Body { d } => queries().body(file, cards, *d),
-        }
+        let room = match self.call {
+            Call::Expand { room, .. } => room,
+            _ => 0,
+        };
+        let out = &mut memory.out[..room];
+        self.call.make(checker, &self.file, &mut memory.cards, out)
     }
 }
 
@@ -262,6 +256,19 @@ fn chain(size: usize, leaf: &dyn Fn(usize) -> Expr, constant: &Expr) -> Vec<Fiel
     fields
 }
 
+/// A definition brought through the whole chain by 200 instances.
+fn chain_under_instances() -> Vec<u8> {
+    let uses = |_: usize| n(1, &[p(0), p(1), n(2, &[])]);
+    let mut fields = chain(1_600, &uses, &n(2, &[]));
+    fields.extend([Field::Module(16), Field::Variable(5)]);
+    for i in 0..200 {
+        let k = and(p(0), and(p(1), p(2)));
+        fields.push(instance(100 + i, 0, 15, &[(1, k), (2, n(5, &[]))]));
+    }
+    fields.push(Field::End);
+    syntax::file(&fields)
+}
+
 /// The families that are slow to check if they are checked badly.
 pub fn checks() -> Vec<Family> {
     let mut all = vec![
@@ -274,17 +281,9 @@ pub fn checks() -> Vec<Family> {
         instances_of_a_large_body("a: 255 instances, demands", &demands, false),
     ];
     // b
-    let uses = |_: usize| n(1, &[p(0), p(1), n(2, &[])]);
-    let mut fields = chain(1_600, &uses, &n(2, &[]));
-    fields.extend([Field::Module(16), Field::Variable(5)]);
-    for i in 0..200 {
-        let k = and(p(0), and(p(1), p(2)));
-        fields.push(instance(100 + i, 0, 15, &[(1, k), (2, n(5, &[]))]));
-    }
-    fields.push(Field::End);
     all.push(family(
         "b: chain of 15 under 200 instances",
-        &syntax::file(&fields),
+        &chain_under_instances(),
         Call::Check,
     ));
     let mixed = |_: usize| n(1, &[p(0), n(2, &[]), p(2)]);
@@ -398,11 +397,13 @@ fn full_tables() -> (Vec<u8>, u16) {
     (syntax::file(&fields), 5_255)
 }
 
-/// The families that are slow to answer if they are answered badly. `large` adds a query of 64 MB.
+/// The families that are slow to answer if they are answered badly. `large` adds queries of 64 MB.
 pub fn queries(large: bool) -> Vec<Family> {
     let x = || n(500, &[]);
     let room = 65_535;
-    let mut all = vec![
+    let mut all = towers();
+    all.extend(brought_queries());
+    all.extend([
         family(
             "i: identity tower",
             &tower(p(0), &twice),
@@ -413,7 +414,7 @@ pub fn queries(large: bool) -> Vec<Family> {
             &tower(p(0), &both),
             expand(1, n(255, &[x()]).bytes(), room),
         ),
-    ];
+    ]);
     let nested = (0..25).fold(x(), |inner, _| n(255, &[inner]));
     all.push(family(
         "j: doubled, then dropped",
@@ -489,7 +490,14 @@ pub fn queries(large: bool) -> Vec<Family> {
         &syntax::file(&fields),
         expand(16, brought(9, 3, &[lit(1), lit(2), lit(3)]).bytes(), room),
     ));
-    // o
+    // o, and g without end: names looked up where as many stand as there is room for.
+    let (file, last) = full_tables();
+    let names = doubled(16, &prime(n(last, &[])));
+    all.push(family(
+        "o: 512 KB of names, full tables",
+        &file,
+        level(2, names),
+    ));
     let file = syntax::file(&[
         Field::Module(1),
         Field::Variable(1),
@@ -499,11 +507,21 @@ pub fn queries(large: bool) -> Vec<Family> {
     let deep = |bytes: usize| [[4, 16].repeat(bytes / 2), lit(0).bytes()].concat();
     let wide = tree_of(4 << 20, &|_| n(1, &[]));
     all.push(family("o: 4 MB wide", &file, level(1, wide.bytes())));
+    let unknown = doubled(19, &prime(n(9, &[])));
+    all.push(family(
+        "o: 4 MB of an unknown name",
+        &file,
+        level(1, unknown),
+    ));
+    let cut = [&doubled(19, &prime(n(1, &[]))), &[5][..]].concat();
+    all.push(family("o: 4 MB with a byte too many", &file, level(1, cut)));
     let dropped = n(2, &[wide, lit(8)]).bytes();
     all.push(family("o: 4 MB dropped", &file, expand(1, dropped, room)));
     all.push(family("o: 4 MB deep", &file, level(1, deep(4 << 20))));
     if large {
         all.push(family("o: 64 MB deep", &file, level(1, deep(64 << 20))));
+        let wide = doubled(23, &prime(n(1, &[])));
+        all.push(family("o: 64 MB wide", &file, level(1, wide)));
     }
     for (length, room) in [
         (65_534, 65_534),
@@ -516,6 +534,51 @@ pub fn queries(large: bool) -> Vec<Family> {
         all.push(family(&label, &file, expand(1, expr, room)));
     }
     all
+}
+
+/// The bytes of ∧ over two copies of itself, so many times over, around an expression.
+fn doubled(times: usize, leaf: &Expr) -> Vec<u8> {
+    (0..times).fold(leaf.bytes(), |inner, _| {
+        [&[4, 49], &inner[..], &inner[..]].concat()
+    })
+}
+
+/// i: towers, asked for everything but an expansion.
+fn towers() -> Vec<Family> {
+    let top = n(255, &[n(500, &[])]).bytes();
+    let mut all = Vec::new();
+    for (what, file) in [
+        ("identity", tower(p(0), &twice)),
+        ("doubling", tower(p(0), &both)),
+    ] {
+        let mut add = |asked: &str, call| {
+            let label = format!("i: {what} tower, {asked}");
+            all.push(family(&label, &file, call));
+        };
+        add("level", level(1, top.clone()));
+        add("alike", Call::Alike { a: 0, b: 254 });
+        add("body", Call::Body { d: 254 });
+    }
+    all
+}
+
+/// b: the last of what a chain of 15 under 200 instances brings, asked for everything but an
+/// expansion.
+fn brought_queries() -> Vec<Family> {
+    let file = &chain_under_instances();
+    let [first, last] = [100, 299].map(|name| brought(name, 3, &[]));
+    let query = and(first, last).bytes();
+    // The chain has one definition in each of its modules.
+    let last = 15 + 199;
+    let asked = [
+        ("level", level(16, query)),
+        ("alike", Call::Alike { a: 0, b: last }),
+        ("body", Call::Body { d: last }),
+    ];
+    asked
+        .into_iter()
+        .map(|(asked, call)| family(&format!("b: chain of 15, {asked}"), file, call))
+        .collect()
 }
 
 /// Realistic files, each with a check and a level query.

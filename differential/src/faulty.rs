@@ -1,6 +1,8 @@
 //! The reference with a fault put in, to try the comparison out.
 
-use crate::checker::{body_refusal, refusal, refused, Checker, Queries, Reference, BODY_REFUSED};
+use crate::checker::{
+    body_refusal, refusal, refused, Checker, Expansions, Queries, Reference, BODY_REFUSED,
+};
 
 /// A fault that a checker could have.
 #[derive(Clone, Copy, Debug, PartialEq, Eq)]
@@ -324,6 +326,52 @@ impl Queries for Faulty {
         reply
     }
 
+    fn alike(&self, file: &[u8], cards: &mut [u8], a: u32, b: u32) -> u32 {
+        let before = cards.to_vec();
+        let file = &self.seen(file)[..];
+        let accepted = Self::accepts(file, cards);
+        let mut reply = Reference.alike(file, cards, a, b);
+        if accepted && refusal(reply).is_none() && self.is(Fault::AlikeByCards) {
+            let card = |d: u32| &cards[125 * d as usize..125 * (d as usize + 1)];
+            reply = (card(a) == card(b)) as u32;
+        }
+        if let Some(spoilt) = self.spoil(file, &before, cards) {
+            return spoilt;
+        }
+        if accepted {
+            self.spoil_query(refusal(reply), cards);
+            if self.is(Fault::AlikeItself) && a == b {
+                return 1;
+            }
+        }
+        reply
+    }
+
+    fn body(&self, file: &[u8], cards: &mut [u8], d: u32) -> u64 {
+        let before = cards.to_vec();
+        let file = &self.seen(file)[..];
+        let accepted = Self::accepts(file, cards);
+        let reply = Reference.body(file, cards, d);
+        if let Some(spoilt) = self.spoil(file, &before, cards) {
+            return BODY_REFUSED + (spoilt & !(1 << 31)) as u64;
+        }
+        if !accepted {
+            return reply;
+        }
+        self.spoil_query(body_refusal(reply), cards);
+        let is_brought = body_refusal(reply).is_none() && source(file, d as usize).is_some();
+        match self.0 {
+            Fault::BroughtBody if is_brought => reply >> 16 << 16,
+            Fault::BodyStart if body_refusal(reply).is_none() => reply - 65_536,
+            _ => reply,
+        }
+    }
+    fn expansions(&self) -> Option<&dyn Expansions> {
+        Some(self)
+    }
+}
+
+impl Expansions for Faulty {
     fn expand(
         &self,
         file: &[u8],
@@ -381,46 +429,5 @@ impl Queries for Faulty {
             _ => (),
         }
         reply
-    }
-
-    fn alike(&self, file: &[u8], cards: &mut [u8], a: u32, b: u32) -> u32 {
-        let before = cards.to_vec();
-        let file = &self.seen(file)[..];
-        let accepted = Self::accepts(file, cards);
-        let mut reply = Reference.alike(file, cards, a, b);
-        if accepted && refusal(reply).is_none() && self.is(Fault::AlikeByCards) {
-            let card = |d: u32| &cards[125 * d as usize..125 * (d as usize + 1)];
-            reply = (card(a) == card(b)) as u32;
-        }
-        if let Some(spoilt) = self.spoil(file, &before, cards) {
-            return spoilt;
-        }
-        if accepted {
-            self.spoil_query(refusal(reply), cards);
-            if self.is(Fault::AlikeItself) && a == b {
-                return 1;
-            }
-        }
-        reply
-    }
-
-    fn body(&self, file: &[u8], cards: &mut [u8], d: u32) -> u64 {
-        let before = cards.to_vec();
-        let file = &self.seen(file)[..];
-        let accepted = Self::accepts(file, cards);
-        let reply = Reference.body(file, cards, d);
-        if let Some(spoilt) = self.spoil(file, &before, cards) {
-            return BODY_REFUSED + (spoilt & !(1 << 31)) as u64;
-        }
-        if !accepted {
-            return reply;
-        }
-        self.spoil_query(body_refusal(reply), cards);
-        let is_brought = body_refusal(reply).is_none() && source(file, d as usize).is_some();
-        match self.0 {
-            Fault::BroughtBody if is_brought => reply >> 16 << 16,
-            Fault::BodyStart if body_refusal(reply).is_none() => reply - 65_536,
-            _ => reply,
-        }
     }
 }

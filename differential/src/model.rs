@@ -99,6 +99,8 @@ pub struct Definition {
     pub parameters: u8,
     /// Number of instances that brought it, one after another.
     pub chain: usize,
+    /// The field that holds its body, for a brought one the original's.
+    pub field: usize,
 }
 
 /// An accepted file so far.
@@ -189,7 +191,7 @@ impl Model {
                 });
             }
             Field::Definition(name, parameters, _) => {
-                let operator = self.define(*name, *parameters, 0);
+                let operator = self.define(*name, *parameters, 0, number);
                 scope.operators.push(operator);
                 scope.order.push(self.definitions.len() - 1);
             }
@@ -201,10 +203,14 @@ impl Model {
             } => {
                 let of = self.module(*module).map(|m| m.scope.order.clone());
                 let mut operators = Vec::new();
-                for number in of.unwrap_or_default() {
-                    let original = self.definitions[number];
-                    let count = parameters + original.parameters;
-                    operators.push(self.define(original.name, count, original.chain + 1));
+                for original in of.unwrap_or_default() {
+                    let Definition {
+                        name: own,
+                        parameters: more,
+                        chain,
+                        field,
+                    } = self.definitions[original];
+                    operators.push(self.define(own, parameters + more, chain + 1, field));
                     scope.order.push(self.definitions.len() - 1);
                 }
                 match name {
@@ -234,17 +240,34 @@ impl Model {
         self.current = Some((name, scope, first));
     }
 
-    fn define(&mut self, name: u16, parameters: u8, chain: usize) -> Operator {
+    fn define(&mut self, name: u16, parameters: u8, chain: usize, field: usize) -> Operator {
         self.definitions.push(Definition {
             name,
             parameters,
             chain,
+            field,
         });
         Operator {
             name,
             count: parameters,
             meaning: Meaning::Defined(self.definitions.len() - 1),
         }
+    }
+
+    /// Whether two definitions are alike, if the file has both.
+    pub fn alike(&self, a: u32, b: u32) -> Option<bool> {
+        let [a, b] = [a, b].map(|number| number as usize);
+        let count = |number: usize| Some(self.definitions.get(number)?.parameters);
+        Some(count(a)? == count(b)? && self.card(a) == self.card(b))
+    }
+
+    /// Where the body of a definition begins in the file, and its length.
+    pub fn body(&self, file: &[u8], number: u32) -> Option<(usize, usize)> {
+        let holds = self.definitions.get(number as usize)?.field;
+        let length = |at: usize| u16::from_be_bytes([file[at + 1], file[at + 2]]) as usize;
+        let start = (0..holds).fold(0, |at, _| at + 3 + length(at));
+        // Name and parameter count stand before it.
+        Some((start + 6, length(start) - 3))
     }
 
     /// The level of an operator over arguments of these levels.

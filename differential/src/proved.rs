@@ -1,6 +1,6 @@
 //! The proved checker, linked as a static library.
 
-use crate::checker::Checker;
+use crate::checker::{Checker, Queries};
 
 /// The proved implementation.
 pub struct Proved;
@@ -12,5 +12,24 @@ impl Checker for Proved {
 
     fn check(&self, file: &[u8], cards: &mut [u8]) -> u32 {
         rafterclary::check_packed(file, cards)
+    }
+
+    fn queries(&self) -> Option<&dyn Queries> {
+        Some(self)
+    }
+}
+
+/// Expansions are not among them yet.
+impl Queries for Proved {
+    fn level(&self, file: &[u8], cards: &mut [u8], module: u16, expr: &[u8], levels: &[u8]) -> u32 {
+        rafterclary::level_packed(file, cards, module, expr, levels)
+    }
+
+    fn alike(&self, file: &[u8], cards: &mut [u8], a: u32, b: u32) -> u32 {
+        rafterclary::alike_packed(file, cards, a, b)
+    }
+
+    fn body(&self, file: &[u8], cards: &mut [u8], d: u32) -> u64 {
+        rafterclary::body_packed(file, cards, d)
     }
 }

@@ -2,7 +2,7 @@
 
 use crate::accepted;
 use crate::cases::{Call, Case, Outcome};
-use crate::checker::Checker;
+use crate::checker::{Checker, Offer};
 use crate::coverage::{Coverage, Section};
 use crate::damage;
 use crate::families;
@@ -75,9 +75,13 @@ pub struct Report {
     pub bytes: u64,
     pub cases: u64,
     pub families: u64,
-    /// Levels and expansions compared with the long way, and those it gave up on.
+    /// Calls left out because a checker does not offer them.
+    pub not_offered: u64,
+    /// Answers compared with the long way, and those it gave up on.
     pub long_way: u64,
     pub given_up: u64,
+    /// Likeness and bodies that are what the generator knows.
+    pub by_the_model: u64,
     pub difference: Option<Difference>,
 }
 
@@ -90,9 +94,13 @@ impl Display for Report {
         )?;
         writeln!(
             f,
-            "{} answers the same the long way, which gave up {} times",
-            self.long_way, self.given_up
+            "{} answers the same the long way, which gave up {} times; {} as the generator knows",
+            self.long_way, self.given_up, self.by_the_model
         )?;
+        if self.not_offered > 0 {
+            let count = self.not_offered;
+            writeln!(f, "{count} calls left out: not offered by both checkers")?;
+        }
         write!(f, "{}", self.coverage)
     }
 }
@@ -227,8 +235,15 @@ pub fn generate(seed: u64, number: u64) -> Generated {
 struct Runner<'a> {
     left: &'a dyn Checker,
     right: &'a dyn Checker,
+    /// What both can be asked.
+    offer: Offer,
     report: Report,
     number: u64,
+}
+
+/// What two checkers can both be asked.
+pub fn offer(left: &dyn Checker, right: &dyn Checker) -> Offer {
+    left.offer().min(right.offer())
 }
 
 /// Compares two checkers, up to the first difference.
@@ -236,6 +251,7 @@ pub fn run(left: &dyn Checker, right: &dyn Checker, options: Options) -> Report 
     let mut runner = Runner {
         left,
         right,
+        offer: offer(left, right),
         report: Report::default(),
         number: 0,
     };
@@ -256,6 +272,13 @@ pub fn run(left: &dyn Checker, right: &dyn Checker, options: Options) -> Report 
 const FUEL: usize = 2_000;
 
 impl Runner<'_> {
+    /// Whether both sides offer a call; one left out is counted.
+    fn offered(&mut self, call: &Call) -> bool {
+        let offered = call.wants() <= self.offer;
+        self.report.not_offered += u64::from(!offered);
+        offered
+    }
+
     /// Runs a case on both sides. `None` if they differ.
     fn compare(&mut self, case: &Case) -> Option<Outcome> {
         self.report.cases += 1;
@@ -289,6 +312,9 @@ impl Runner<'_> {
             families::queries(false),
         ];
         for family in all.iter().flatten() {
+            if !self.offered(&family.call) {
+                continue;
+            }
             self.compare(&Case::new(&family.file, family.call.clone()))?;
             self.report.families += 1;
         }
@@ -336,6 +362,9 @@ impl Runner<'_> {
             }
         }
         for call in generated.calls.iter().filter(|_| options.queries) {
+            if !self.offered(call) {
+                continue;
+            }
             let case = Case::new(&file, call.clone());
             let outcome = self.compare(&case)?;
             self.report.coverage.case(&case, &outcome, verdict);
@@ -344,8 +373,10 @@ impl Runner<'_> {
             self.report.coverage.refused += 1;
             if options.queries && random.chance(15) {
                 let case = queries::blind(random, &file);
-                let outcome = self.compare(&case)?;
-                self.report.coverage.case(&case, &outcome, verdict);
+                if self.offered(&case.call) {
+                    let outcome = self.compare(&case)?;
+                    self.report.coverage.case(&case, &outcome, verdict);
+                }
             }
             return Some(());
         }
@@ -376,6 +407,9 @@ impl Runner<'_> {
         long_way: bool,
     ) -> Option<()> {
         let query = queries::query(random, file, model);
+        if !self.offered(&query.case.call) {
+            return Some(());
+        }
         let outcome = self.compare(&query.case)?;
         let coverage = &mut self.report.coverage;
         coverage.case(&query.case, &outcome, None);
@@ -387,10 +421,39 @@ impl Runner<'_> {
                 coverage.query(label);
             }
         }
+        if !first {
+            self.query_by_the_model(&query.case, &outcome, model)?;
+        }
         if long_way && !first {
             self.query_the_long_way(&query.case, &outcome)?;
         }
         Some(())
+    }
+
+    /// Compares likeness and bodies with what the generator knows of the file.
+    fn query_by_the_model(&mut self, case: &Case, outcome: &Outcome, model: &Model) -> Option<()> {
+        let known = match case.call {
+            Call::Alike { a, b } => model.alike(a, b).map(u64::from),
+            Call::Body { d } => {
+                let part = model.body(&case.file, d);
+                part.map(|(start, length)| 65_536 * start as u64 + length as u64)
+            }
+            _ => return Some(()),
+        };
+        let same = match known {
+            Some(reply) => outcome.reply == reply,
+            None => case.refusal(outcome) == Some((17, 0)),
+        };
+        if same {
+            self.report.by_the_model += 1;
+            return Some(());
+        }
+        let reply = case.reply(outcome);
+        self.astray(
+            case,
+            format!("reply {reply}, the generator knows {known:?}"),
+        );
+        None
     }
 
     /// Compares an entry of a card with the long way's level.

@@ -5,6 +5,7 @@
 //!
 //! - [`parse`] reads text into a [`File`]; an error has a line, a column and a message.
 //! - [`print`] writes a [`File`] as text, which parses to the same [`File`].
+//! - [`parse_expression`], [`print_expression_over`] and [`print_body`] do so for one expression.
 //! - [`encode`] writes a [`File`] as tagged bytes.
 //! - [`decode`] reads tagged bytes; a fault of the layout has an offset and a reason.
 //!
@@ -32,5 +33,5 @@ pub use decode::{decode, DecodeError, Reason};
 pub use encode::{encode, EncodeError, EncodeFault};
 pub use lexer::Position;
 pub use names::{NameFault, Names};
-pub use parse::{parse, parse_with_places, ParseError, Parsed};
-pub use print::{print, print_expression};
+pub use parse::{parse, parse_expression, parse_with_places, ParseError, Parsed};
+pub use print::{print, print_body, print_expression, print_expression_over};

@@ -56,20 +56,43 @@ pub fn parse(text: &str) -> Result<File, ParseError> {
     parse_with_places(text).map(|parsed| parsed.file)
 }
 
+/// Reads an expression by itself, over parameters of these names. Its names are those of a file;
+/// `n12` is number 12, whether the file has it or not.
+pub fn parse_expression<'t>(
+    text: &'t str,
+    names: &Names,
+    parameters: &[&'t str],
+) -> Result<Expr, ParseError> {
+    let mut parser = Parser::new(text)?;
+    parser.numbers = Numbers::Given;
+    parser.names = names.clone();
+    let mut scope = Scope::default();
+    let start = parser.place();
+    for (number, &word) in parameters.iter().enumerate() {
+        if !names::identifier(word) {
+            let message = format!("`{word}` cannot be the name of a parameter");
+            return Err(ParseError::new(start, message));
+        }
+        if names.number(Space::Operators, word).is_some() {
+            let message = format!("the parameter `{word}` has the name of an operator");
+            return Err(ParseError::new(start, message));
+        }
+        let count = scope.reserve();
+        parser.open_local(&mut scope, word, start, Local::Parameter(number), count)?;
+    }
+    let expression = parser.expression(&mut scope)?;
+    if parser.peek() != Lexeme::End {
+        let found = parser.peek();
+        return parser.fail(format!(
+            "expected an operator that goes on with the expression, or its end, found {found}"
+        ));
+    }
+    Ok(expression)
+}
+
 /// Reads a text, and tells where each field stands in it.
 pub fn parse_with_places(text: &str) -> Result<Parsed, ParseError> {
-    let lexemes = lexer::lexemes(text)?;
-    let mut parser = Parser {
-        lexemes,
-        at: 0,
-        header: false,
-        names: Names::new(),
-        fields: Vec::new(),
-        places: Vec::new(),
-        declared: HashMap::new(),
-        arities: Arities::default(),
-        next: [1, 1],
-    };
+    let mut parser = Parser::new(text)?;
     parser.header()?;
     while parser.peek() != Lexeme::End {
         parser.item()?;
@@ -118,22 +141,46 @@ impl Scope<'_> {
     }
 }
 
+/// Where the numbers of names come from.
+#[derive(Clone, Copy, PartialEq, Eq)]
+enum Numbers {
+    /// They are counted in the order of first appearance.
+    Counted,
+    /// The text has a NAMES header.
+    Header,
+    /// The names are those of a file.
+    Given,
+}
+
 pub(crate) struct Parser<'t> {
     lexemes: Vec<(Lexeme<'t>, Position)>,
     at: usize,
-    /// Whether the text has a NAMES header.
-    header: bool,
+    numbers: Numbers,
     names: Names,
     fields: Vec<Field>,
     places: Vec<Position>,
     /// The names that the module has added so far.
     declared: HashMap<&'t str, Position>,
     arities: Arities,
-    /// The next number of each space, without a header.
+    /// The next number of each space, where they are counted.
     next: [u32; 2],
 }
 
 impl<'t> Parser<'t> {
+    fn new(text: &'t str) -> Result<Parser<'t>, ParseError> {
+        Ok(Parser {
+            lexemes: lexer::lexemes(text)?,
+            at: 0,
+            numbers: Numbers::Counted,
+            names: Names::new(),
+            fields: Vec::new(),
+            places: Vec::new(),
+            declared: HashMap::new(),
+            arities: Arities::default(),
+            next: [1, 1],
+        })
+    }
+
     pub fn peek(&self) -> Lexeme<'t> {
         self.lexemes[self.at].0
     }
@@ -200,13 +247,14 @@ impl<'t> Parser<'t> {
         if let Some(number) = self.names.number(space, word) {
             return Ok(number);
         }
-        if self.header {
-            return names::plain_number(word).ok_or_else(|| {
-                ParseError::new(
-                    place,
-                    format!("`{word}` has no number in the NAMES header; add it there"),
-                )
-            });
+        let unknown = match self.numbers {
+            Numbers::Counted => None,
+            Numbers::Header => Some("has no number in the NAMES header; add it there"),
+            Numbers::Given => Some("is not a name of the file"),
+        };
+        if let Some(why) = unknown {
+            return names::plain_number(word)
+                .ok_or_else(|| ParseError::new(place, format!("`{word}` {why}")));
         }
         let next = &mut self.next[space as usize];
         let number = u16::try_from(*next)
@@ -228,7 +276,7 @@ impl<'t> Parser<'t> {
         if self.peek() != Lexeme::Word("NAMES") {
             return Ok(());
         }
-        self.header = true;
+        self.numbers = Numbers::Header;
         self.advance();
         for (word, space) in [("MODULES", Space::Modules), ("OPERATORS", Space::Operators)] {
             if self.peek() != Lexeme::Word(word) {
@@ -488,9 +536,9 @@ impl<'t> Parser<'t> {
         count: usize,
     ) -> Result<(), ParseError> {
         let fault = |message: String| Err(ParseError::new(place, message));
-        if self.header && names::plain_number(word).is_some() {
+        if self.numbers != Numbers::Counted && names::plain_number(word).is_some() {
             return fault(format!(
-                "`{word}` stands for the name of that number under a NAMES header"
+                "`{word}` stands for the name of that number, and cannot be a local one"
             ));
         }
         if scope.visible.contains_key(word) {
@@ -578,7 +626,7 @@ impl<'t> Parser<'t> {
 
     /// Without a header, numbers names in the order in which the bytes have them.
     fn finish(mut self) -> (File, Vec<Position>) {
-        if !self.header {
+        if self.numbers == Numbers::Counted {
             let mut order: [HashMap<u16, u16>; 2] = Default::default();
             for field in &mut self.fields {
                 field.map_names(&mut |space, name| {

@@ -16,13 +16,7 @@ const WIDTH: usize = 76;
 /// a spelling of the form `n12` for another number than 12. And if the fields of a parsed file
 /// were changed by hand, a local spelling that no longer fits makes way for an invented one.)
 pub fn print(file: &File) -> String {
-    let mut printer = Printer {
-        names: &file.names,
-        header: !in_order(file),
-        declared: HashSet::new(),
-        arities: Arities::default(),
-        text: String::new(),
-    };
+    let mut printer = Printer::new(&file.names, !in_order(file));
     if printer.header {
         printer.header();
     }
@@ -30,30 +24,47 @@ pub fn print(file: &File) -> String {
     while number < file.fields.len() {
         let more = printer.field(file, number);
         for field in &file.fields[number..number + more] {
-            printer.arities.add(field);
-            if matches!(field, Field::Module { .. } | Field::End) {
-                printer.declared.clear();
-            }
-            if let Some(name) = field.adds() {
-                let spelled = printer.name(Space::Operators, name);
-                printer.declared.insert(spelled);
-            }
+            printer.pass(field);
         }
         number += more;
     }
     printer.text
 }
 
+/// The text of a definition's body, as [`print`] writes it; `None` if the field is no definition.
+pub fn print_body(file: &File, field: usize) -> Option<String> {
+    let Some(
+        definition @ Field::Definition {
+            name,
+            parameters,
+            body,
+        },
+    ) = file.fields.get(field)
+    else {
+        return None;
+    };
+    let mut printer = Printer::new(&file.names, !in_order(file));
+    for before in &file.fields[..field] {
+        printer.pass(before);
+    }
+    let mut locals = printer.locals(field, definition);
+    printer.defined(&mut locals, *name, *parameters);
+    printer.text.clear();
+    printer.expression(&mut locals, body);
+    Some(printer.text)
+}
+
 /// The text of an expression alone, with invented names for its parameters and bound variables.
 /// A name without a spelling is written `n12`.
 pub fn print_expression(expression: &Expr, names: &Names, parameters: u8) -> String {
-    let mut printer = Printer {
-        names,
-        header: true,
-        declared: HashSet::new(),
-        arities: Arities::default(),
-        text: String::new(),
-    };
+    let invented: Vec<String> = (0..parameters).map(|place| format!("p{place}")).collect();
+    print_expression_over(expression, names, &invented)
+}
+
+/// The same with names for its parameters; one that means something in the expression already gets
+/// `_` added.
+pub fn print_expression_over(expression: &Expr, names: &Names, parameters: &[String]) -> String {
+    let mut printer = Printer::new(names, true);
     let mut operators = HashSet::new();
     for token in expression.tokens() {
         match *token {
@@ -75,8 +86,13 @@ pub fn print_expression(expression: &Expr, names: &Names, parameters: u8) -> Str
         parameters: Vec::new(),
         bound: Vec::new(),
     };
-    for _ in 0..parameters {
-        printer.open_parameter(&mut locals);
+    for parameter in parameters {
+        let mut name = parameter.clone();
+        while locals.visible.contains(&name) || locals.operators.contains(&name) {
+            name.push('_');
+        }
+        locals.visible.insert(name.clone());
+        locals.parameters.push(name);
     }
     printer.expression(&mut locals, expression);
     printer.text
@@ -134,7 +150,45 @@ enum Piece {
     Close,
 }
 
-impl Printer<'_> {
+impl<'f> Printer<'f> {
+    fn new(names: &'f Names, header: bool) -> Printer<'f> {
+        Printer {
+            names,
+            header,
+            declared: HashSet::new(),
+            arities: Arities::default(),
+            text: String::new(),
+        }
+    }
+
+    /// Notes what a field adds.
+    fn pass(&mut self, field: &Field) {
+        self.arities.add(field);
+        if matches!(field, Field::Module { .. } | Field::End) {
+            self.declared.clear();
+        }
+        if let Some(name) = field.adds() {
+            let spelled = self.name(Space::Operators, name);
+            self.declared.insert(spelled);
+        }
+    }
+
+    /// The local names of a field before any is written.
+    fn locals(&self, number: usize, field: &Field) -> Locals {
+        let mut operators = HashSet::new();
+        field.for_each_operator(|name| {
+            operators.insert(self.name(Space::Operators, name));
+        });
+        Locals {
+            field: number,
+            count: 0,
+            operators,
+            visible: HashSet::new(),
+            parameters: Vec::new(),
+            bound: Vec::new(),
+        }
+    }
+
     /// The spelling of a name if it can be used, else `n12`.
     fn name(&self, space: Space, name: u16) -> String {
         match self.names.spelling(space, name) {
@@ -199,18 +253,7 @@ impl Printer<'_> {
             self.list(if tag == 3 { "CONSTANT" } else { "VARIABLE" }, &items);
             return items.len();
         }
-        let mut operators = HashSet::new();
-        field.for_each_operator(|name| {
-            operators.insert(self.name(Space::Operators, name));
-        });
-        let mut locals = Locals {
-            field: number,
-            count: 0,
-            operators,
-            visible: HashSet::new(),
-            parameters: Vec::new(),
-            bound: Vec::new(),
-        };
+        let mut locals = self.locals(number, field);
         match field {
             Field::Module { name } => {
                 let name = self.name(Space::Modules, *name);

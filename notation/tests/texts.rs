@@ -325,3 +325,50 @@ fn expressions_by_themselves() {
     assert_eq!(text, "\\E x0 : x0 + p0 > x");
     assert_eq!(Expr::decode(&body.encode()).as_ref(), Ok(body));
 }
+
+#[test]
+fn a_query_of_a_file() {
+    let text = "---- MODULE M ----\nVARIABLE x\nF(p) == \\E a : a + p > x\n====";
+    let file = parse(text).expect("it parses");
+    let asked = |text, parameters: &[&'static str]| {
+        notation::parse_expression(text, &file.names, parameters)
+    };
+    let read = asked("F(q)' # x + n9", &["p", "q"]).expect("it parses");
+    let bytes = [
+        4, 51, 4, 112, 2, 0, 2, 1, 0, 1, 4, 52, 2, 0, 1, 0, 2, 0, 9, 0,
+    ];
+    assert_eq!(read.encode(), bytes);
+    let names = ["p".to_string(), "q".to_string()];
+    let written = notation::print_expression_over(&read, &file.names, &names);
+    assert_eq!(written, "F(q)' # x + n9");
+    let taken = ["x".to_string(), "x".to_string()];
+    let written = notation::print_expression_over(&read, &file.names, &taken);
+    assert_eq!(written, "F(x__)' # x + n9");
+    for (text, parameters, column, message) in [
+        ("x + y", &[][..], 5, "not a name of the file"),
+        ("x y", &[], 3, "its end, found"),
+        ("", &[], 1, "expected an expression"),
+        ("x", &["x"], 1, "the name of an operator"),
+        ("x", &["p", "p"], 1, "already has a meaning"),
+        ("x", &["n3"], 1, "the name of that number"),
+        ("x", &["a b"], 1, "cannot be the name of a parameter"),
+        ("x == 1", &[], 3, "its end, found"),
+    ] {
+        let fault = asked(text, parameters).expect_err(text);
+        assert_eq!((fault.line, fault.column), (1, column), "{text}: {fault}");
+        assert!(fault.message.contains(message), "{text}: {fault}");
+    }
+}
+
+#[test]
+fn bodies_by_themselves() {
+    let text = "---- MODULE M ----\nVARIABLE x\nF(p) == \\E a : a + p > x\n====";
+    let file = parse(text).expect("it parses");
+    let body = notation::print_body(&file, 2);
+    assert_eq!(body.as_deref(), Some("\\E a : a + p > x"));
+    assert_eq!(notation::print_body(&file, 1), None);
+    assert_eq!(notation::print_body(&file, 9), None);
+    let bare = notation::decode(&notation::encode(&file).expect("bytes")).expect("fields");
+    let body = notation::print_body(&bare, 2);
+    assert_eq!(body.as_deref(), Some("\\E x0 : x0 + p0 > n1"));
+}

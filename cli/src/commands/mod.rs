@@ -1,19 +1,24 @@
 //! The commands.
 
+mod alike;
+mod body;
 mod card;
 mod check;
+mod choosing;
 mod convert;
 mod explain;
+mod level;
 mod list;
 mod show;
 
 use crate::archive::{self, Cards, Refusal};
 use crate::args::{Args, Command};
 use crate::diagnostics::{self, Colors};
-use crate::finding;
+use crate::finding::{self, Told};
 use crate::input::{Input, Reading};
 use crate::json::{Field, Refused, Report, Verdict};
 use crate::outline::Outline;
+use crate::question::Given;
 use crate::{Misuse, Status};
 use serde::Serialize;
 use std::io::{stdin, stdout, IsTerminal, Write};
@@ -27,7 +32,7 @@ struct Options<'o> {
     colors: Colors,
 }
 
-/// Runs a command. The queries beside the check find their place here once the archive has them.
+/// Runs a command. `expand` finds its place here once the archive has it.
 pub fn run(args: &Args) -> Result<Status, Misuse> {
     let colors = Colors::new(args.color);
     let options = Options {
@@ -43,6 +48,25 @@ pub fn run(args: &Args) -> Result<Status, Misuse> {
         Command::Check { quiet, files } => check::run(options, *quiet, files),
         Command::List { names, files } => list::run(options, *names, files),
         Command::Card { file, definition } => card::run(options, file, definition),
+        Command::Level {
+            file,
+            module,
+            expression,
+            levels,
+            hex,
+        } => {
+            let given = match hex {
+                true => Given::Bytes(expression),
+                false => Given::Text(expression),
+            };
+            level::run(options, file, module, given, levels)
+        }
+        Command::Alike {
+            file,
+            first,
+            second,
+        } => alike::run(options, file, [first, second]),
+        Command::Body { file, definition } => body::run(options, file, definition),
         Command::Show { file } => show::run(options, file),
         Command::Explain { number } => explain::run(options, *number),
         Command::Convert { file, output } => convert::run(options, file, output.as_deref()),
@@ -141,6 +165,26 @@ fn refused(
     if telling == Telling::Reasons {
         finding.notes.push(format!("refused {place}"));
         diagnostics::refused(input, refusal.number, &finding, options.colors)?;
+    }
+    Ok(Status::Refused)
+}
+
+/// Tells a refusal of a query's own, the file itself being accepted.
+fn refused_query(
+    options: Options,
+    input: &Input,
+    refusal: Refusal,
+    told: &Told,
+) -> Result<Status, Misuse> {
+    let Refusal { number, place } = refusal;
+    let at = match number {
+        1 | 2 | 17 | 18 => number.to_string(),
+        _ => format!("{number} at the query (place {place}, the number of fields)"),
+    };
+    let message = &told.finding.message;
+    put(format!("{}: refused {at}: {message}\n", input.name).as_bytes())?;
+    if let Some(asked) = &told.input {
+        diagnostics::refused(asked, number, &told.finding, options.colors)?;
     }
     Ok(Status::Refused)
 }

@@ -6,7 +6,7 @@ use notation::{Expr, Field, Token};
 const MODULES: usize = 16;
 const DECLARATIONS: usize = 64;
 const DEFINITIONS: usize = 256;
-const PARAMETERS: usize = 3;
+pub(super) const PARAMETERS: usize = 3;
 const NESTING: usize = 32;
 
 impl Site<'_> {
@@ -105,7 +105,7 @@ impl Site<'_> {
 }
 
 /// A limit that an expression passes.
-fn within(expression: &Expr) -> Option<String> {
+pub(super) fn within(expression: &Expr) -> Option<String> {
     let given = |token: &Token| match token {
         Token::Name { arguments, .. } | Token::Instance { arguments, .. } => *arguments,
         _ => 0,

@@ -3,9 +3,12 @@
 //! The archive has decided; here the facts are looked up that a designer wants to see. What
 //! cannot be looked up, or asked of the archive, is left out.
 
+mod asked;
 mod levels;
 mod limits;
 mod names;
+
+pub use asked::{find_asked, no_definition, Told};
 
 use crate::archive::Refusal;
 use crate::causes;

@@ -12,9 +12,12 @@ abbrev pub outcomeOf : Reply → Outcome ℕ
 outcomeOf (Accepted n) = result n
 outcomeOf (Refused c p) = refusal c p
 
--- a reply, and the lent card memory after it
+-- an outcome, and the lent card memory after it
+abbrev pub answer : {A : Type 0} → Outcome A → List ℕ → Answer A
+answer o memory = record { reply = o; memory = memory }
+
 abbrev pub answerOf : Reply → List ℕ → Answer ℕ
-answerOf r memory = record { reply = outcomeOf r; memory = memory }
+answerOf r memory = answer (outcomeOf r) memory
 
 -- at the end of a file of n definitions: "file ends inside a module", at "the number of fields"
 abbrev pub endReply : Phase → ℕ → ℕ → Reply

@@ -42,6 +42,11 @@ abbrev pub Leaves : List ℕ → List ℕ → Reply → List ℕ → List ℕ �
 Leaves facts words (Accepted n) before after = after ≡ overwrite (cardsOf facts words n) before
 Leaves facts words (Refused c p) before after = after ≡ overwrite (replicate cardMemoryBytes 0) before
 
+-- A file of lawful size judged: what its fields lead to, and the lent memory before and after.
+pub record Concludes (file : List ℕ) (v : Store) (c : Counts) (refs words declared : List ℕ) (r : Reply) (before after : List ℕ) : Type 0 where
+  pub settles : Settles file v c refs words declared r
+  pub leaves : Leaves (v .facts) words r before after
+
 -- Before each field: something stands, the cursor is at the next field, and the file is judged as what is left of it.
 pub data Midway (file : List ℕ) (at : Cursor) (v : Store) (c : Counts) (p : Phase) (refs words declared : List ℕ) : Type 0 where
   midway : (fs : List Field) (s : State) (rs : List Row) → Standing file fs s rs v c p refs words declared → placeOf at ≡ s .bytes → at .number ≡ s .fields
@@ -54,8 +59,3 @@ Few (Refused c p) = Unit {0}
 -- "file empty or over its limit"
 abbrev pub wrongSize : List ℕ → Bool
 wrongSize file = isEmpty file || ltb fileBytes (length file)
-
--- what every reply to a check keeps to
-abbrev pub Small : Reply → Type 0
-Small (Accepted n) = n ≤ maxDefinitions
-Small (Refused c p) = (c ≤ 16) × (p ≤ fileBytes)

@@ -1,5 +1,4 @@
 // The check over a whole file: paper 01's public operation.
-pub mod exports;
 pub mod judging;
 
 ghost use mathlib.Core.Bool.{false, true};
@@ -14,9 +13,10 @@ ghost use Rattle.rules.specs.Bytes.{isEmpty};
 ghost use Rattle.rules.specs.Run.{check};
 ghost use Rattle.tokens.proofs.Writing.{Bytes};
 ghost use Rattle.checker.specs.Reply.{answerOf};
-ghost use Rattle.checker.specs.Settles.{Few, Leaves, wrongSize};
+ghost use Rattle.checker.specs.Settles.{Concludes, Few, Leaves, wrongSize};
 use cards::clear_cards;
 use cards::fill_cards;
+use judging::Verdict;
 use judging::judge_fields;
 use limits::Limits;
 
@@ -27,24 +27,19 @@ pub enum Reply {
 }
 
 // The lent memory after a reply: the cards of an accepted file; else zeros.
-fn settle(reply: Reply, facts: &[u16], words: &[u64], cards: &mut [u8]) -> Reply
+fn settle(reply: Reply, facts: &[u16], words: &[u64], cards: &mut [u8])
     requires { ⌜ Few reply × (length (now facts) ≡ factsLength) × (length (now words) ≡ tableWords) × (cardMemoryBytes ≤ length (now cards)) ⌝ }
-    ensures { λ r. ⌜ (r ≡ reply) × Leaves (now (facts .entry)) (now (words .entry)) reply (now (cards .entry)) (now (cards .exit)) ⌝ }
+    ensures { λ r. ⌜ Leaves (now (facts .entry)) (now (words .entry)) reply (now (cards .entry)) (now (cards .exit)) ⌝ }
 {
     match reply {
-        Reply::Accepted(n) => {
-            fill_cards(facts, words, n, cards);
-            Reply::Accepted(n)
-        }
-        Reply::Refused(c, p) => {
-            clear_cards(cards);
-            Reply::Refused(c, p)
-        }
+        Reply::Accepted(n) => fill_cards(facts, words, n, cards),
+        Reply::Refused(_, _) => clear_cards(cards),
     }
 }
 
-// A file of lawful size, judged in arrays that are empty.
-fn check_in(
+// A file of lawful size, judged in arrays that are empty, and the lent memory after it. On acceptance the arrays show the state that the file
+// leads to, for what is asked of it.
+pub fn judge_in(
     file: &[u8],
     cards: &mut [u8],
     names: &mut [u16],
@@ -57,9 +52,9 @@ fn check_in(
     declared: &mut [u16],
     marks: &mut [u16],
     tally: &mut [u16],
-) -> Reply
+) -> Verdict
     requires { ⌜ (cardMemoryBytes ≤ length (now cards)) × (isEmpty (now file) ≡ false) × (length (now file) ≤ fileBytes) × Bytes (now file) × (store (now names) (now facts) (now contexts) (now orders) (now heads) ≡ empty) × (length (now refs) ≡ fileBytes) × (length (now words) ≡ tableWords) × (length (now declared) ≡ maxDeclarations) × (length (now marks) ≡ codeCount) × (length (now tally) ≡ maxDefinitions) ⌝ }
-    ensures { λ r. ⌜ answerOf r (now (cards .exit)) ≡ check (now (file .entry)) (now (cards .entry)) ⌝ }
+    ensures { λ r. ⌜ Concludes (now (file .entry)) (store (now (names .exit)) (now (facts .exit)) (now (contexts .exit)) (now (orders .exit)) (now (heads .exit))) (r .counts) (now (refs .exit)) (now (words .exit)) (now (declared .exit)) (r .reply) (now (cards .entry)) (now (cards .exit)) ⌝ }
 {
     let verdict = judge_fields(
         file,
@@ -75,7 +70,8 @@ fn check_in(
         tally,
     );
     let reply = verdict.reply;
-    settle(reply, facts, words, cards)
+    settle(reply, facts, words, cards);
+    verdict
 }
 
 // A file of lawful size.
@@ -93,7 +89,7 @@ fn check_fields(file: &[u8], cards: &mut [u8]) -> Reply
     let mut declared = [0u16; Limits::DECLARATIONS];
     let mut marks = [0u16; Limits::CODES];
     let mut tally = [0u16; Limits::DEFINITIONS];
-    check_in(
+    let verdict = judge_in(
         file,
         cards,
         &mut names,
@@ -106,7 +102,8 @@ fn check_fields(file: &[u8], cards: &mut [u8]) -> Reply
         &mut declared,
         &mut marks,
         &mut tally,
-    )
+    );
+    verdict.reply
 }
 
 // Refusal 2: the cards are zeroed.
@@ -118,6 +115,16 @@ fn refuse_size(file: &[u8], cards: &mut [u8]) -> Reply
     Reply::Refused(2, 0)
 }
 
+// "file empty or over its limit"
+pub fn wrong_size(file: &[u8]) -> bool
+    ensures { λ r. ⌜ r ≡ wrongSize (now (file .entry)) ⌝ }
+{
+    if file.len() == 0 {
+        return true;
+    }
+    Limits::FILE_BYTES < file.len()
+}
+
 // Checks a file, and fills the lent card memory.
 pub fn check(file: &[u8], cards: &mut [u8]) -> Reply
     ensures { λ r. ⌜ answerOf r (now (cards .exit)) ≡ check (now (file .entry)) (now (cards .entry)) ⌝ }
@@ -125,10 +132,7 @@ pub fn check(file: &[u8], cards: &mut [u8]) -> Reply
     if cards.len() < Limits::CARD_MEMORY_BYTES {
         return Reply::Refused(1, 0);
     }
-    if file.len() == 0 {
-        return refuse_size(file, cards);
-    }
-    if Limits::FILE_BYTES < file.len() {
+    if wrong_size(file) {
         return refuse_size(file, cards);
     }
     check_fields(file, cards)

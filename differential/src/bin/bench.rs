@@ -65,7 +65,7 @@ fn run() -> Result<(), String> {
     let right = given.right.as_deref().map(checker_named).transpose()?;
     let mut memory = Memory::default();
     print!(
-        "{:40} {:>7} {:>18} {:>12}",
+        "{:40} {:>8} {:>18} {:>12}",
         "", "bytes", "reply", "left (ms)"
     );
     match &right {
@@ -87,10 +87,10 @@ fn run() -> Result<(), String> {
         let case = Case::new(&family.file, family.call.clone());
         let reply = case.reply(&case.run(&*left));
         let time = best(&*left, family, given.rounds, &mut memory);
-        let bytes = family.file.len();
+        let bytes = family.bytes();
         let label = &family.label;
         print!(
-            "{label:40} {bytes:>7} {reply:>18} {:>12.3}",
+            "{label:40} {bytes:>8} {reply:>18} {:>12.3}",
             milliseconds(time)
         );
         if let Some(right) = &right {

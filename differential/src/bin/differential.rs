@@ -1,8 +1,9 @@
 //! Compares two level checkers on generated files.
 
+use differential::checker::Offer;
 use differential::checker_named;
 use differential::faulty::FAULTS;
-use differential::runner::{run, Options, DEFAULT_FILES, DEFAULT_SEED};
+use differential::runner::{offer, run, Options, DEFAULT_FILES, DEFAULT_SEED};
 use std::process::ExitCode;
 
 const USAGE: &str = "differential [--files N] [--seed S] [--left CHECKER] [--right CHECKER] \
@@ -59,7 +60,11 @@ fn compare() -> Result<bool, String> {
         right,
     } = arguments()?;
     let (left, right) = (checker_named(&left)?, checker_named(&right)?);
-    if options.queries && (left.queries().is_none() || right.queries().is_none()) {
+    let asked = match options.queries {
+        true => offer(&*left, &*right),
+        false => Offer::Checks,
+    };
+    if options.queries && asked == Offer::Checks {
         return Err("a checker of these answers no queries".into());
     }
     let (files, seed) = (options.files, options.seed);
@@ -70,7 +75,7 @@ fn compare() -> Result<bool, String> {
         return Ok(false);
     }
     print!("{report}");
-    let missing = report.coverage.missing(options.queries);
+    let missing = report.coverage.missing(asked);
     for what in &missing {
         println!("MISSING {what}");
     }

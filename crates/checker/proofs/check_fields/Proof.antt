@@ -1,4 +1,4 @@
-use Rattle.checker.proofs.Answers.{empty-store}
+use Rattle.checker.proofs.Answers.{check-concluded, empty-store}
 use borrow.Author.Needs.{needs}
 use Rattle.checker.proofs.check_fields.Statement.{statement}
 use Rattle.checker.proofs.check_fields.Tie as tie
@@ -18,44 +18,44 @@ no-orders-requires c κs = search needs
 no-heads-requires : tie.Need-no-heads-requires
 no-heads-requires c κs = search needs
 
-slice-aggregate-check-in : tie.Need-slice-aggregate-check-in
-slice-aggregate-check-in c = search needs
+slice-aggregate-judge-in : tie.Need-slice-aggregate-judge-in
+slice-aggregate-judge-in c = search needs
 
-slice-aggregate-check-in-2 : tie.Need-slice-aggregate-check-in-2
-slice-aggregate-check-in-2 c = search needs
+slice-aggregate-judge-in-2 : tie.Need-slice-aggregate-judge-in-2
+slice-aggregate-judge-in-2 c = search needs
 
-slice-aggregate-check-in-3 : tie.Need-slice-aggregate-check-in-3
-slice-aggregate-check-in-3 c = search needs
+slice-aggregate-judge-in-3 : tie.Need-slice-aggregate-judge-in-3
+slice-aggregate-judge-in-3 c = search needs
 
-slice-aggregate-check-in-4 : tie.Need-slice-aggregate-check-in-4
-slice-aggregate-check-in-4 c = search needs
+slice-aggregate-judge-in-4 : tie.Need-slice-aggregate-judge-in-4
+slice-aggregate-judge-in-4 c = search needs
 
-slice-aggregate-check-in-5 : tie.Need-slice-aggregate-check-in-5
-slice-aggregate-check-in-5 c = search needs
+slice-aggregate-judge-in-5 : tie.Need-slice-aggregate-judge-in-5
+slice-aggregate-judge-in-5 c = search needs
 
-slice-aggregate-check-in-6 : tie.Need-slice-aggregate-check-in-6
-slice-aggregate-check-in-6 c = search needs
+slice-aggregate-judge-in-6 : tie.Need-slice-aggregate-judge-in-6
+slice-aggregate-judge-in-6 c = search needs
 
-slice-aggregate-check-in-7 : tie.Need-slice-aggregate-check-in-7
-slice-aggregate-check-in-7 c = search needs
+slice-aggregate-judge-in-7 : tie.Need-slice-aggregate-judge-in-7
+slice-aggregate-judge-in-7 c = search needs
 
-slice-aggregate-check-in-8 : tie.Need-slice-aggregate-check-in-8
-slice-aggregate-check-in-8 c = search needs
+slice-aggregate-judge-in-8 : tie.Need-slice-aggregate-judge-in-8
+slice-aggregate-judge-in-8 c = search needs
 
-slice-aggregate-check-in-9 : tie.Need-slice-aggregate-check-in-9
-slice-aggregate-check-in-9 c = search needs
+slice-aggregate-judge-in-9 : tie.Need-slice-aggregate-judge-in-9
+slice-aggregate-judge-in-9 c = search needs
 
-slice-aggregate-check-in-10 : tie.Need-slice-aggregate-check-in-10
-slice-aggregate-check-in-10 c = search needs
+slice-aggregate-judge-in-10 : tie.Need-slice-aggregate-judge-in-10
+slice-aggregate-judge-in-10 c = search needs
 
-check-in-requires : tie.Need-check-in-requires
-check-in-requires c κs = (search needs, search needs, search needs, search needs, empty-store (c .before .before .before .before .before .before .before .before .before .before .before .before .before .before .before .no-names .ensures) (c .before .before .before .before .before .before .before .before .before .before .before .before .before .before .no-facts .ensures) (c .before .before .before .before .before .before .before .before .before .before .before .before .before .no-contexts .ensures) (c .before .before .before .before .before .before .before .before .before .before .before .before .no-orders .ensures) (c .before .before .before .before .before .before .before .before .before .before .before .no-heads .ensures), search needs, search needs, search needs, search needs, search needs)
+judge-in-requires : tie.Need-judge-in-requires
+judge-in-requires c κs = (search needs, search needs, search needs, search needs, empty-store (c .before .before .before .before .before .before .before .before .before .before .before .before .before .before .before .no-names .ensures) (c .before .before .before .before .before .before .before .before .before .before .before .before .before .before .no-facts .ensures) (c .before .before .before .before .before .before .before .before .before .before .before .before .before .no-contexts .ensures) (c .before .before .before .before .before .before .before .before .before .before .before .before .no-orders .ensures) (c .before .before .before .before .before .before .before .before .before .before .before .no-heads .ensures), search needs, search needs, search needs, search needs, search needs)
 
 same-length : tie.Need-same-length
 same-length c = search needs
 
 returns : tie.Need-returns
-returns c = search needs
+returns c = check-concluded _ _ _ _ _ _ _ _ _ (c .before .before .before .before .before .before .before .before .before .before .before .before .before .before .before .before .before .before .before .before .before .before .before .before .before .before .before .before .before .before .before .pre .0) (c .before .before .before .before .before .before .before .before .before .before .before .before .before .before .before .before .before .before .before .before .before .before .before .before .before .before .before .before .before .before .before .pre .1) (c .before .before .before .before .before .before .before .before .before .before .before .before .before .before .before .before .before .before .before .before .before .before .before .before .before .before .before .before .before .before .before .pre .2) (c .before .before .before .before .before .before .before .before .before .before .before .before .judge-in .ensures)
 
 pub check-fields-spec : {M : Type 1} → statement M
 check-fields-spec =
@@ -66,16 +66,16 @@ check-fields-spec =
     no-contexts-requires
     no-orders-requires
     no-heads-requires
-    slice-aggregate-check-in
-    slice-aggregate-check-in-2
-    slice-aggregate-check-in-3
-    slice-aggregate-check-in-4
-    slice-aggregate-check-in-5
-    slice-aggregate-check-in-6
-    slice-aggregate-check-in-7
-    slice-aggregate-check-in-8
-    slice-aggregate-check-in-9
-    slice-aggregate-check-in-10
-    check-in-requires
+    slice-aggregate-judge-in
+    slice-aggregate-judge-in-2
+    slice-aggregate-judge-in-3
+    slice-aggregate-judge-in-4
+    slice-aggregate-judge-in-5
+    slice-aggregate-judge-in-6
+    slice-aggregate-judge-in-7
+    slice-aggregate-judge-in-8
+    slice-aggregate-judge-in-9
+    slice-aggregate-judge-in-10
+    judge-in-requires
     same-length
     returns)

@@ -1,4 +1,3 @@
-use mathlib.Core.Path.{sym}
 use Rattle.checker.proofs.Answers.{cleared-in, few-in, filled-in}
 use borrow.Author.Needs.{needs}
 use Rattle.checker.proofs.settle.Statement.{statement}
@@ -10,8 +9,8 @@ enum-known-reply c = search needs
 fill-cards-requires : tie.Need-fill-cards-requires
 fill-cards-requires c κs = (search needs, search needs, search few-in, search needs)
 
-enum-known-reply-2 : tie.Need-enum-known-reply-2
-enum-known-reply-2 c = search needs
+enum-told : tie.Need-enum-told
+enum-told c = search needs
 
 clear-cards-requires : tie.Need-clear-cards-requires
 clear-cards-requires c κs = search needs
@@ -20,13 +19,13 @@ same-length : tie.Need-same-length
 same-length c = search needs
 
 returns : tie.Need-returns
-returns c = (search sym, search filled-in)
+returns c = search filled-in
 
 same-length-2 : tie.Need-same-length-2
 same-length-2 c = search needs
 
 returns-2 : tie.Need-returns-2
-returns-2 c = (search sym, search cleared-in)
+returns-2 c = search cleared-in
 
 pub settle-spec : {M : Type 1} → statement M
 settle-spec =
@@ -34,7 +33,7 @@ settle-spec =
     (tie.spec
     enum-known-reply
     fill-cards-requires
-    enum-known-reply-2
+    enum-told
     clear-cards-requires
     same-length
     returns

@@ -1,0 +1,114 @@
+//! The shapes of `--json` for the queries.
+
+use crate::archive::Refusal;
+use crate::causes;
+use crate::finding::Finding;
+use crate::json::{Card, Refused};
+use crate::question::Question;
+use serde::Serialize;
+
+/// What a query says: what was asked, and the answer.
+#[derive(Serialize)]
+pub struct Asked<'r, Q, A> {
+    pub file: &'r str,
+    #[serde(flatten)]
+    pub query: Q,
+    #[serde(flatten)]
+    pub answer: Answer<A>,
+}
+
+#[derive(Serialize)]
+#[serde(tag = "verdict", rename_all = "lowercase")]
+pub enum Answer<A> {
+    Answered(A),
+    Refused(Box<Refused>),
+}
+
+impl<A> Answer<A> {
+    /// A refusal of the query's own: its place is no field.
+    pub fn refused(refusal: Refusal, finding: &Finding) -> Answer<A> {
+        Answer::Refused(Box::new(Refused {
+            number: refusal.number,
+            place: refusal.place,
+            cause: causes::cause(refusal.number).map_or("", |cause| cause.title),
+            field: None,
+            message: finding.message.clone(),
+            names: finding.names.clone(),
+            notes: finding.notes.clone(),
+        }))
+    }
+}
+
+/// A query for a level.
+#[derive(Serialize)]
+pub struct LevelAsked {
+    pub module: String,
+    pub expression: String,
+    pub hexadecimal: String,
+    pub parameters: Vec<Parameter>,
+}
+
+#[derive(Serialize)]
+pub struct Parameter {
+    pub name: String,
+    pub level: u8,
+}
+
+impl LevelAsked {
+    pub fn new(module: String, question: &Question) -> LevelAsked {
+        let parameters = question.parameters.iter().map(|each| Parameter {
+            name: each.name.clone(),
+            level: each.level,
+        });
+        LevelAsked {
+            module,
+            expression: question.text.clone(),
+            hexadecimal: hexadecimal(&question.bytes),
+            parameters: parameters.collect(),
+        }
+    }
+}
+
+#[derive(Serialize)]
+pub struct Level {
+    pub level: u8,
+}
+
+/// A query about two definitions.
+#[derive(Serialize)]
+pub struct AlikeAsked {
+    pub numbers: [u32; 2],
+}
+
+#[derive(Serialize)]
+pub struct Alike {
+    pub alike: bool,
+    pub cards: Vec<Card>,
+}
+
+/// A query for a body.
+#[derive(Serialize)]
+pub struct BodyAsked {
+    pub definition: u32,
+}
+
+#[derive(Serialize)]
+pub struct Body {
+    /// Its first byte in the tagged file.
+    pub offset: usize,
+    pub length: usize,
+    /// The number of the field that holds it.
+    pub field: usize,
+    pub hexadecimal: String,
+    pub expression: String,
+    /// The name of the definition asked for, `I!F` for a brought one.
+    pub written: String,
+    /// The definition that the field makes.
+    pub original: String,
+}
+
+/// Bytes in hexadecimal, spaces between them.
+pub fn hexadecimal(bytes: &[u8]) -> String {
+    let each: Vec<String> = bytes.iter().map(|byte| format!("{byte:02x}")).collect();
+    each.join(" ")
+}

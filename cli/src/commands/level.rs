@@ -1,0 +1,63 @@
+//! `level`: the level of an expression at the end of a module.
+
+use super::{accepted, put, put_json, refused, refused_query, Failure, Options, Telling};
+use crate::answers::{Answer, Asked, Level, LevelAsked};
+use crate::archive;
+use crate::causes::LEVELS;
+use crate::finding::find_asked;
+use crate::input::Input;
+use crate::question::{Given, Question};
+use crate::{Misuse, Status};
+use std::path::Path;
+
+pub fn run(
+    options: Options,
+    path: &Path,
+    module: &str,
+    given: Given,
+    levels: &[String],
+) -> Result<Status, Misuse> {
+    let input = Input::read(path, options.reading)?;
+    let (_, outline) = match accepted(&input) {
+        Ok(accepted) => accepted,
+        Err(Failure::Misuse(fault)) => return Err(fault),
+        Err(Failure::Refused(refusal)) => {
+            return refused(options, &input, refusal, Telling::Reasons);
+        }
+    };
+    let question = Question::new(&input, module, given, levels, options.colors)?;
+    let Question { module, bytes, .. } = &question;
+    let reply = archive::level(&input.bytes, *module, bytes, &question.levels());
+    let told = match reply {
+        Ok(level) if options.json => {
+            let answer = Answer::Answered(Level { level });
+            return say(&input, &question, answer, Status::Accepted);
+        }
+        Ok(level) => {
+            let word = LEVELS.get(usize::from(level)).unwrap_or(&"");
+            put(format!("{level} {word}\n").as_bytes())?;
+            return Ok(Status::Accepted);
+        }
+        Err(refusal) => (refusal, find_asked(&input, &outline, &question, refusal)),
+    };
+    let (refusal, told) = told;
+    if options.json {
+        let answer = Answer::refused(refusal, &told.finding);
+        return say(&input, &question, answer, Status::Refused);
+    }
+    refused_query(options, &input, refusal, &told)
+}
+
+fn say(
+    input: &Input,
+    question: &Question,
+    answer: Answer<Level>,
+    status: Status,
+) -> Result<Status, Misuse> {
+    put_json(&Asked {
+        file: &input.name,
+        query: LevelAsked::new(input.module(question.module), question),
+        answer,
+    })?;
+    Ok(status)
+}

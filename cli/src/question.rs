@@ -1,0 +1,171 @@
+//! A level query as it is given: a module, an expression, and levels for its parameters.
+
+use crate::args::Form;
+use crate::causes::LEVELS;
+use crate::diagnostics::{self, Colors};
+use crate::input::Input;
+use crate::outline::Outline;
+use crate::probe;
+use crate::source::{self, Source};
+use crate::Misuse;
+use notation::{DecodeError, Expr, Field, File, Names, Space};
+
+/// What an expression is called in what is printed.
+pub const NAME: &str = "the expression";
+
+/// A parameter with the level given for it.
+pub struct Parameter {
+    pub name: String,
+    pub level: u8,
+}
+
+pub struct Question {
+    pub module: u16,
+    pub parameters: Vec<Parameter>,
+    pub bytes: Vec<u8>,
+    /// What the bytes hold.
+    pub expression: Result<Expr, DecodeError>,
+    /// As it was given, or as the notation writes it; empty for bytes that hold no expression.
+    pub text: String,
+}
+
+/// An expression as it is given.
+#[derive(Clone, Copy)]
+pub enum Given<'g> {
+    Text(&'g str),
+    /// Bytes in hexadecimal.
+    Bytes(&'g str),
+}
+
+impl Question {
+    pub fn new(
+        input: &Input,
+        module: &str,
+        given: Given,
+        levels: &[String],
+        colors: Colors,
+    ) -> Result<Question, Misuse> {
+        let names = &input.file.names;
+        let module = named_module(input, module)?;
+        let parameters = parameters(names, levels)?;
+        let words: Vec<&str> = parameters.iter().map(|each| each.name.as_str()).collect();
+        let (bytes, text) = match given {
+            Given::Text(text) => match notation::parse_expression(text, names, &words) {
+                Ok(expression) => (expression.encode(), text.to_string()),
+                Err(fault) => {
+                    let at = source::offset_of(text, fault.line, fault.column);
+                    diagnostics::not_a_text(NAME, text, at, &fault.message, colors)?;
+                    return Err(Misuse::Silent);
+                }
+            },
+            Given::Bytes(digits) => {
+                let bytes = hexadecimal(digits)?;
+                let written = Expr::decode(&bytes).map(|expression| {
+                    let words: Vec<String> = words.iter().map(|word| word.to_string()).collect();
+                    notation::print_expression_over(&expression, names, &words)
+                });
+                (bytes, written.unwrap_or_default())
+            }
+        };
+        Ok(Question {
+            module,
+            parameters,
+            expression: Expr::decode(&bytes),
+            bytes,
+            text,
+        })
+    }
+
+    pub fn levels(&self) -> Vec<u8> {
+        self.parameters.iter().map(|each| each.level).collect()
+    }
+
+    /// The fields of the file up to the module's end, and then this expression as a definition:
+    /// so that what is wrong in it can be told as of a field. And the place of that field.
+    pub fn as_field(&self, input: &Input, outline: &Outline) -> Option<(Input, usize)> {
+        let place = outline.ended(self.module)?.last?;
+        let body = self.expression.clone().ok()?;
+        let mut fields = input.file.fields[..place].to_vec();
+        fields.push(Field::Definition {
+            name: probe::unused(&input.file.fields, &body)?,
+            parameters: u8::try_from(self.parameters.len()).ok()?,
+            body,
+        });
+        let asked = Input {
+            name: NAME.to_string(),
+            form: Form::Text,
+            bytes: Vec::new(),
+            offsets: Vec::new(),
+            file: File {
+                fields,
+                names: input.file.names.clone(),
+            },
+            fault: None,
+            source: Source::of_field(self.text.clone(), place),
+        };
+        Some((asked, place))
+    }
+}
+
+/// The number of a module: of its spelling, or of `n12`, or as it is.
+fn named_module(input: &Input, word: &str) -> Result<u16, Misuse> {
+    let spelled = input.file.names.number(Space::Modules, word);
+    let number = || word.strip_prefix('n').unwrap_or(word).parse().ok();
+    spelled.or_else(number).ok_or_else(|| {
+        let modules = input.file.fields.iter().filter_map(|field| match field {
+            Field::Module { name } => Some(input.module(*name)),
+            _ => None,
+        });
+        let modules: Vec<String> = modules.collect();
+        let all = match modules.is_empty() {
+            true => "it has none".to_string(),
+            false => format!("it has {}", modules.join(", ")),
+        };
+        Misuse::Message(format!("{}: no module is called {word}; {all}", input.name))
+    })
+}
+
+/// `NAME=LEVEL`, or a level for a parameter that is called by its number.
+fn parameters(names: &Names, levels: &[String]) -> Result<Vec<Parameter>, Misuse> {
+    let each = levels.iter().enumerate().map(|(place, word)| {
+        let (name, level) = match word.split_once('=') {
+            Some((name, level)) => (name.to_string(), level),
+            None => (invented(names, place), word.as_str()),
+        };
+        let book = LEVELS.iter().take(4).position(|each| *each == level);
+        let level = book.map(|level| level as u8).or_else(|| level.parse().ok());
+        level.map(|level| Parameter { name, level }).ok_or_else(|| {
+            Misuse::Message(format!(
+                "{word} is not a level: 0 to 4, constant, state, transition or temporal, \
+                     or NAME=LEVEL"
+            ))
+        })
+    });
+    each.collect()
+}
+
+fn invented(names: &Names, place: usize) -> String {
+    let mut name = format!("p{place}");
+    while names.number(Space::Operators, &name).is_some() {
+        name.push('_');
+    }
+    name
+}
+
+/// Bytes of two digits each, with or without spaces between them.
+fn hexadecimal(digits: &str) -> Result<Vec<u8>, Misuse> {
+    let misuse = || Misuse::Message(format!("{digits} is not bytes in hexadecimal"));
+    let digits: Vec<u8> = digits
+        .chars()
+        .filter(|c| !c.is_whitespace())
+        .map(|c| c.to_digit(16).map(|digit| digit as u8))
+        .collect::<Option<_>>()
+        .ok_or_else(misuse)?;
+    if digits.len() % 2 == 1 {
+        return Err(misuse());
+    }
+    Ok(digits
+        .chunks(2)
+        .map(|pair| 16 * pair[0] + pair[1])
+        .collect())
+}

@@ -1,0 +1,5 @@
+pub mod Outcomes
+pub mod SameCards
+pub mod Picking
+pub mod Showing
+pub mod Asking

@@ -1,0 +1,119 @@
+-- The replies from the arrays are the rules', where the arrays show a state.
+use borrow.Author.Tests.{le-ltb, leb-false, leb-true, lt-ltb}
+use mathlib.Core.Bool.{Bool, cond, false, true, _&&_}
+use mathlib.Core.List.{List}
+use mathlib.Core.Path.{_∙_, _≡_, ap, ap₂, refl, subst⁻¹, sym}
+use Prim.Native.Nat.{ℕ, _+_, _*_, _<_}
+use native.Mathlib.Nat.{zero-add}
+use native.Mathlib.Omega.{arith}
+use lib.Dec.{eqb, leb, ltb}
+use lib.ListN.{getD, length}
+use Rattle.limits.specs.Limits.{cardBytes}
+use Rattle.rules.specs.Field.{Field}
+use Rattle.rules.specs.Query.{alike, alikeReply, bodyReply}
+use Rattle.rules.specs.Run.{Outcome, andThen, card, memoryAfter, refusal, result}
+use Rattle.rules.specs.State.{Added, State, definitionAt, paramsOf}
+use Rattle.laws.proofs.Memory.{card-at, card-size}
+use Rattle.worlds.specs.Rows.{Row}
+use Rattle.context.specs.Store.{countAt, firstAt, kindAt, store}
+use Rattle.context.specs.declared.Counts.{Counts}
+use Rattle.judge_plain.specs.declared.Phase.{Phase}
+use Rattle.standing.specs.Standing.{Standing}
+use Rattle.asking.specs.Asks.{Asks, outcomeOf}
+use Rattle.asking.specs.declared.Asked.{Asked}
+use Rattle.queries.specs.Question.{alikeIn, bodyIn, levelIn}
+use Rattle.queries.specs.Replies.{Replies, alikeAt, bodyAt, likeAt, sameFrom}
+use Rattle.queries.specs.declared.Question.the-variants.{Alike, Body, Level}
+use Rattle.queries.specs.declared.Question.{Question}
+use Rattle.queries.specs.declared.Replied.the-variants.{Compared, Located, Refused}
+use Rattle.queries.specs.declared.Replied.{Replied}
+use Rattle.queries.proofs.SameCards.{same-lists}
+
+-- the rules' replies, by whether the definitions are there
+abbrev alikeBy : State → ℕ → ℕ → Bool → Bool → Outcome Bool
+alikeBy s g h a b = andThen (cond a (result g) (refusal 17 0)) λ g. andThen (cond b (result h) (refusal 17 0)) λ h. result (alike s g h)
+
+abbrev bodyBy : State → ℕ → Bool → Outcome (ℕ × ℕ)
+bodyBy s g a = andThen (cond a (result g) (refusal 17 0)) λ g. result (definitionAt s g .bodyStart, definitionAt s g .bodyLength)
+
+module _ (file : List ℕ) (fs : List Field) (s : State) (rs : List Row) (names facts contexts orders heads : List ℕ) (c : Counts) (p : Phase) (refs words declared : List ℕ)
+    (stands : Standing file fs s rs (store names facts contexts orders heads) c p refs words declared) where
+  counted : c .definitions ≡ length (s .definitions)
+  counted = stands .holds .definitions
+
+  params-shown : (g : ℕ) → g < c .definitions → kindAt facts g ≡ paramsOf s g
+  params-shown g l = ap (λ (d : Added). d .params) (stands .holds .described g l)
+
+  card-there : (cards before : List ℕ) → cards ≡ memoryAfter (result s) before → (g : ℕ) → g < length (s .definitions) → (j : ℕ) → j < length (card s g)
+      → getD cards (cardBytes * g + (0 + j)) 0 ≡ getD (card s g) j 0
+  card-there cards before e g l j k =
+      ap₂ (λ (m : List ℕ) (i : ℕ). getD m (cardBytes * g + i) 0) e (zero-add j)
+      ∙ card-at s (stands .within) before g j l (omega (arith, card-size s (stands .within) g l))
+
+  like-shown : (cards before : List ℕ) → cards ≡ memoryAfter (result s) before → (g h : ℕ) → g < c .definitions → h < c .definitions
+      → likeAt facts cards g h ≡ alike s g h
+  like-shown cards before e g h l k =
+      let a : g < length (s .definitions) = omega (arith, counted) in
+      let b : h < length (s .definitions) = omega (arith, counted) in
+      let x = card-size s (stands .within) g a in
+      let y = card-size s (stands .within) h b in
+      ap₂ (λ (u v : Bool). u && v) (ap₂ eqb (params-shown g l) (params-shown h k))
+      (ap (sameFrom cards (cardBytes * g) (cardBytes * h) 0) (sym x)
+      ∙ same-lists cards (cardBytes * g) (cardBytes * h) 0 (card s g) (card s h) (x ∙ sym y) (card-there cards before e g a) (card-there cards before e h b))
+
+  -- ALIKE
+  pub alike-shown : (cards before : List ℕ) → cards ≡ memoryAfter (result s) before → (g h : ℕ) → alikeIn (alikeAt facts cards (c .definitions) g h) ≡ alikeReply g h s
+  unfolding alikeAt
+  alike-shown cards before e g h = go (leb (c .definitions) g) (leb (c .definitions) h) refl refl
+    where
+      go : (a b : Bool) → leb (c .definitions) g ≡ a → leb (c .definitions) h ≡ b
+          → alikeIn (cond a (Refused 17 0) (cond b (Refused 17 0) (Compared (likeAt facts cards g h)))) ≡ alikeReply g h s
+      go true b u v =
+          let l : ltb g (length (s .definitions)) ≡ false = le-ltb g (length (s .definitions)) (omega (arith, counted, leb-true (c .definitions) g u)) in
+          sym (ap (λ (x : Bool). alikeBy s g h x (ltb h (length (s .definitions)))) l)
+      go false true u v =
+          let l : ltb g (length (s .definitions)) ≡ true = lt-ltb g (length (s .definitions)) (omega (arith, counted, leb-false (c .definitions) g u)) in
+          let k : ltb h (length (s .definitions)) ≡ false = le-ltb h (length (s .definitions)) (omega (arith, counted, leb-true (c .definitions) h v)) in
+          sym (ap₂ (alikeBy s g h) l k)
+      go false false u v =
+          let a = leb-false (c .definitions) g u in
+          let b = leb-false (c .definitions) h v in
+          let l : ltb g (length (s .definitions)) ≡ true = lt-ltb g (length (s .definitions)) (omega (arith, counted)) in
+          let k : ltb h (length (s .definitions)) ≡ true = lt-ltb h (length (s .definitions)) (omega (arith, counted)) in
+          ap result (like-shown cards before e g h a b) ∙ sym (ap₂ (alikeBy s g h) l k)
+
+  -- BODY. Of a brought definition the arrays keep the original's.
+  pub body-shown : (g : ℕ) → bodyIn (bodyAt facts (c .definitions) g) ≡ bodyReply g s
+  unfolding bodyAt
+  body-shown g = go (leb (c .definitions) g) refl
+    where
+      go : (a : Bool) → leb (c .definitions) g ≡ a → bodyIn (cond a (Refused 17 0) (Located (firstAt facts g) (countAt facts g))) ≡ bodyReply g s
+      go true u = sym (ap (bodyBy s g) (le-ltb g (length (s .definitions)) (omega (arith, counted, leb-true (c .definitions) g u))))
+      go false u =
+          let a = leb-false (c .definitions) g u in
+          ap (λ (d : Added). result (d .bodyStart, d .bodyLength)) (stands .holds .described g a)
+          ∙ sym (ap (bodyBy s g) (lt-ltb g (length (s .definitions)) (omega (arith, counted))))
+
+-- by the question
+module _ (q : Question) (names facts contexts heads words cards : List ℕ) (c : Counts) (expr levels : List ℕ) (r : Replied) where
+  pub levelled : (m : ℕ) (a : Asked) → q ≡ Level m → Asks names facts contexts heads words c m levels expr a → levelIn r ≡ outcomeOf a
+      → Replies q names facts contexts heads words cards c expr levels r
+  levelled m a e x f =
+      subst⁻¹ (λ (y : Question). Replies y names facts contexts heads words cards c expr levels r) e
+      (record { reply = λ file fs s rs p orders refs declared before stands filled. f ∙ x .reply file fs s rs p orders refs declared stands })
+
+  pub compared : (g h : ℕ) → q ≡ Alike g h → r ≡ alikeAt facts cards (c .definitions) g h → Replies q names facts contexts heads words cards c expr levels r
+  compared g h e f =
+      subst⁻¹ (λ (y : Question). Replies y names facts contexts heads words cards c expr levels r) e
+      (record {
+        reply = λ file fs s rs p orders refs declared before stands filled.
+            ap alikeIn f ∙ alike-shown file fs s rs names facts contexts orders heads c p refs words declared stands cards before filled g h;
+      })
+
+  pub located : (g : ℕ) → q ≡ Body g → r ≡ bodyAt facts (c .definitions) g → Replies q names facts contexts heads words cards c expr levels r
+  located g e f =
+      subst⁻¹ (λ (y : Question). Replies y names facts contexts heads words cards c expr levels r) e
+      (record {
+        reply = λ file fs s rs p orders refs declared before stands filled.
+            ap bodyIn f ∙ body-shown file fs s rs names facts contexts orders heads c p refs words declared stands g;
+      })

@@ -1,0 +1,86 @@
+-- The places of refusals, and the parts of the file that bodies are, lie in the file.
+use mathlib.Core.List.{List, [], _++_, _∷_}
+use mathlib.Core.Path.{_∙_, _≡_, ap}
+use Prim.Native.Nat.{ℕ, zero, suc, _+_, _≤_}
+use native.Mathlib.Omega.{arith}
+use lib.ListN.{length, length-append}
+use Rattle.limits.specs.Limits.{fileBytes}
+use Rattle.rules.specs.Bytes.{writeAll}
+use Rattle.rules.specs.Expression.{expression}
+use Rattle.rules.specs.Field.{Field, definition, field, writeField}
+use Rattle.rules.specs.Query.{alikeQuery, bodyQuery, levelQuery}
+use Rattle.rules.specs.Run.{checked, refusal, result}
+use Rattle.rules.specs.State.{Added, State, definitionAt, start}
+use Rattle.laws.proofs.Accept.{adds}
+use Rattle.laws.proofs.Body.{Body, From, adds-bytes}
+use Rattle.laws.proofs.Checks.{lawful-when-accepted}
+use Rattle.laws.proofs.Fields.{field-some}
+use Rattle.laws.proofs.FileRefusals.{file-place}
+use Rattle.laws.proofs.QueryRefusals.{AlikeRefused, BodyRefused, LevelRefused, QueryRefused, TermRefused, alike-refused, at-fault, body-refused, by-file, by-query, level-refused, no-module}
+use Rattle.laws.proofs.QueryReplies.{body-exact}
+use Rattle.laws.proofs.Reach.{Spells}
+
+pub not-over : (file memory : List ℕ) (s : State) → checked file memory ≡ result s → length file ≤ fileBytes
+not-over file memory s a = lawful-when-accepted file memory s a .0 .not-over
+
+-- each field takes bytes
+fields-short : (fs : List Field) → length fs ≤ length (writeAll field fs)
+fields-short [] = omega arith
+fields-short (f ∷ fs) = rw length-append (omega (arith, field-some f, fields-short fs))
+
+few-fields : (file memory : List ℕ) (s : State) (fs : List Field) → checked file memory ≡ result s → Spells fs file → length fs ≤ fileBytes
+few-fields file memory s fs a w = omega (arith, fields-short fs, ap length (w .1), not-over file memory s a)
+
+-- where the query's own refusals stand no further than the number of fields, each refusal's place is within the file's limit
+query-place : (file memory : List ℕ) (Own : State → ℕ → ℕ → ℕ → Type 0) → ((s : State) (k c p : ℕ) → Own s k c p → p ≤ k)
+    → (c p : ℕ) → QueryRefused file memory Own c p → p ≤ fileBytes
+query-place file memory Own near c p (by-file e) = file-place file memory c p e
+query-place file memory Own near c p (by-query s fs a w o) = omega (arith, near s (length fs) c p o, few-fields file memory s fs a w)
+
+term-place : (s : State) (k m n : ℕ) (levels bytes : List ℕ) (c p : ℕ) → TermRefused s k m n levels bytes c p → p ≤ k
+term-place s k m n levels bytes c p (no-module q u v) = omega arith
+term-place s k m n levels bytes c p (at-fault M q r v) = omega arith
+
+pub level-place : (file memory : List ℕ) (m : ℕ) (levels bytes : List ℕ) (c p : ℕ) → levelQuery file memory m levels bytes .reply ≡ refusal c p → p ≤ fileBytes
+level-place file memory m levels bytes c p e =
+    query-place file memory (LevelRefused m levels bytes) (λ s k c p r. term-place s k m (length levels) levels bytes c p r) c p
+    (level-refused file memory m levels bytes c p .0 e)
+
+pub alike-place : (file memory : List ℕ) (g h c p : ℕ) → alikeQuery file memory g h .reply ≡ refusal c p → p ≤ fileBytes
+alike-place file memory g h c p e =
+    query-place file memory (AlikeRefused g h) (λ s k c p r. let z = r .2 in omega (arith, z)) c p (alike-refused file memory g h c p .0 e)
+
+pub body-place : (file memory : List ℕ) (g c p : ℕ) → bodyQuery file memory g .reply ≡ refusal c p → p ≤ fileBytes
+body-place file memory g c p e =
+    query-place file memory (BodyRefused g) (λ s k c p r. let z = r .2 in omega (arith, z)) c p (body-refused file memory g c p .0 e)
+
+-- a definition's body is its original's
+one-place : (s : State) (k g o : ℕ) → From s k g o
+    → (definitionAt s g .bodyStart ≡ definitionAt s o .bodyStart) × (definitionAt s g .bodyLength ≡ definitionAt s o .bodyLength)
+one-place s zero g o f = (ap (λ (g : ℕ). definitionAt s g .bodyStart) f, ap (λ (g : ℕ). definitionAt s g .bodyLength) f)
+one-place s (suc k) g o f =
+    let r = one-place s k (f .0) o (f .2) in
+    (f .1 .one-start ∙ r .0, f .1 .one-length ∙ r .1)
+
+fields-length : (fs gs : List Field) → length (writeAll field (fs ++ gs)) ≡ length (writeAll field fs) + length (writeAll field gs)
+fields-length [] gs = omega arith
+fields-length (f ∷ fs) gs = rw (length-append, length-append) (omega (arith, fields-length fs gs))
+
+-- so the part that a body query hands back lies in the file
+pub body-inside : (file : List ℕ) (s : State) (g : ℕ) → Body file s g → definitionAt s g .bodyStart + definitionAt s g .bodyLength ≤ length file
+body-inside file s g b =
+    let o = b .origin in
+    let place = one-place s (o .instances) g (o .original) (o .from) in
+    let from : definitionAt s g .bodyStart ≡ adds start (o .before) .bytes + 6 = place .0 ∙ ap (λ (d : Added). d .bodyStart) (o .added) in
+    let size : definitionAt s g .bodyLength ≡ length (expression .write (o .body)) = place .1 ∙ ap (λ (d : Added). d .bodyLength) (o .added) in
+    let whole : length (writeAll field (o .before ++ (definition (o .name) (o .params) (o .body) ∷ o .behind))) ≡ length file =
+    ap (λ (fs : List Field). length (writeAll field fs)) (o .fields) ∙ ap length (b .accepts .written) in
+    let bytes = adds-bytes start (o .before) in
+    let split = fields-length (o .before) (definition (o .name) (o .params) (o .body) ∷ o .behind) in
+    let one = length-append (writeField (definition (o .name) (o .params) (o .body))) (writeAll field (o .behind)) in
+    omega (arith, from, size, whole, bytes, split, one)
+
+pub part-inside : (file memory : List ℕ) (g : ℕ) (part : ℕ × ℕ) → bodyQuery file memory g .reply ≡ result part → part .0 + part .1 ≤ fileBytes
+part-inside file memory g part e =
+    let r = body-exact file memory g part .0 e in
+    omega (arith, ap (λ (x : ℕ × ℕ). x .0) (r .part-is), ap (λ (x : ℕ × ℕ). x .1) (r .part-is), body-inside file (r .state) g (r .body), not-over file memory (r .state) (r .accepted))

@@ -1,0 +1,35 @@
+-- A reply as one number, as the C interface hands it over.
+use mathlib.Core.Bool.{Bool, cond}
+use Prim.Native.Nat.{ℕ, _+_, _*_, _^_, _≤_}
+use Rattle.limits.specs.Limits.{fileBytes, maxDefinitions}
+use Rattle.rules.specs.Run.{Outcome, refusal, result}
+
+-- a refusal has the highest of 32 bits set, its number above its place of 16 bits
+abbrev pub packedRefusal : ℕ → ℕ → ℕ
+packedRefusal c p = 2 ^ 31 + 65536 * c + p
+
+-- a number is itself
+abbrev pub packed : Outcome ℕ → ℕ
+packed (result n) = n
+packed (refusal c p) = packedRefusal c p
+
+-- 1 is yes, 0 is no
+abbrev pub packedTruth : Outcome Bool → ℕ
+packedTruth (result b) = cond b 1 0
+packedTruth (refusal c p) = packedRefusal c p
+
+-- a part of the file has its start above its length of 16 bits; a refusal has the highest of 64 bits set
+abbrev pub packedSpan : Outcome (ℕ × ℕ) → ℕ
+packedSpan (result part) = 65536 * part .0 + part .1
+packedSpan (refusal c p) = 2 ^ 63 + 65536 * c + p
+
+-- what every reply keeps to, so that it can be packed: a bound on the result, and on the place of a refusal
+abbrev pub Packable : {A : Type 0} → (A → Type 0) → Outcome A → Type 0
+Packable P (result a) = P a
+Packable P (refusal c p) = p ≤ fileBytes
+
+abbrev pub FewDefinitions : ℕ → Type 0
+FewDefinitions n = n ≤ maxDefinitions
+
+abbrev pub InFile : ℕ × ℕ → Type 0
+InFile part = part .0 + part .1 ≤ fileBytes

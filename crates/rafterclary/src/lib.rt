@@ -1,0 +1,136 @@
+// What the archive hands to C and Rust: a slice is a pointer and a length.
+ghost use mathlib.Core.Bool.{cond};
+ghost use mathlib.Core.Path.{_≡_};
+ghost use Prim.Native.Nat.{_+_, _*_, _≤_};
+ghost use Rattle.limits.specs.Limits.{fileBytes, maxDefinitions};
+ghost use Rattle.rules.specs.Query.{alikeQuery, bodyQuery, levelQuery};
+ghost use Rattle.rules.specs.Run.{check};
+ghost use Rattle.asking.specs.Asks as levels;
+ghost use Rattle.checker.specs.Reply.{outcomeOf};
+ghost use Rattle.queries.specs.Question.{alikeOutcome, bodyOutcome};
+ghost use Rattle.rafterclary.specs.Packed.{FewDefinitions, InFile, Packable, packed, packedSpan, packedTruth};
+use asking::Asked;
+use checker::Reply;
+use checker::check;
+use queries::AlikeReply;
+use queries::BodyReply;
+use queries::alike;
+use queries::body;
+use queries::level;
+
+fn pack_result(n: usize) -> u32
+    requires { ⌜ n ≤ maxDefinitions ⌝ }
+    ensures { λ r. ⌜ r ≡ n ⌝ }
+{
+    n as u32
+}
+
+fn pack_truth(b: bool) -> u32
+    ensures { λ r. ⌜ r ≡ cond b 1 0 ⌝ }
+{
+    if b { 1 } else { 0 }
+}
+
+fn pack_span(start: usize, size: usize) -> u64
+    requires { ⌜ start + size ≤ fileBytes ⌝ }
+    ensures { λ r. ⌜ r ≡ 65536 * start + size ⌝ }
+{
+    65536 * (start as u64) + size as u64
+}
+
+fn pack_refusal(c: u8, p: usize) -> u32
+    requires { ⌜ p ≤ fileBytes ⌝ }
+    ensures { λ r. ⌜ r ≡ 2147483648 + 65536 * c + p ⌝ }
+{
+    2147483648 + 65536 * (c as u32) + p as u32
+}
+
+fn pack_wide_refusal(c: u8, p: usize) -> u64
+    requires { ⌜ p ≤ fileBytes ⌝ }
+    ensures { λ r. ⌜ r ≡ 9223372036854775808 + 65536 * c + p ⌝ }
+{
+    9223372036854775808 + 65536 * (c as u64) + p as u64
+}
+
+// Each operation's reply as one number.
+fn pack(reply: Reply) -> u32
+    requires { ⌜ Packable FewDefinitions (outcomeOf reply) ⌝ }
+    ensures { λ r. ⌜ r ≡ packed (outcomeOf reply) ⌝ }
+{
+    match reply {
+        Reply::Accepted(n) => pack_result(n),
+        Reply::Refused(c, p) => pack_refusal(c, p),
+    }
+}
+
+fn pack_level(reply: Asked) -> u32
+    requires { ⌜ Packable (λ l. Unit {0}) (levels.outcomeOf reply) ⌝ }
+    ensures { λ r. ⌜ r ≡ packed (levels.outcomeOf reply) ⌝ }
+{
+    match reply {
+        Asked::Level(l) => l as u32,
+        Asked::Refused(c, p) => pack_refusal(c, p),
+    }
+}
+
+fn pack_alike(reply: AlikeReply) -> u32
+    requires { ⌜ Packable (λ b. Unit {0}) (alikeOutcome reply) ⌝ }
+    ensures { λ r. ⌜ r ≡ packedTruth (alikeOutcome reply) ⌝ }
+{
+    match reply {
+        AlikeReply::Alike(b) => pack_truth(b),
+        AlikeReply::Refused(c, p) => pack_refusal(c, p),
+    }
+}
+
+fn pack_body(reply: BodyReply) -> u64
+    requires { ⌜ Packable InFile (bodyOutcome reply) ⌝ }
+    ensures { λ r. ⌜ r ≡ packedSpan (bodyOutcome reply) ⌝ }
+{
+    match reply {
+        BodyReply::Body(start, size) => pack_span(start, size),
+        BodyReply::Refused(c, p) => pack_wide_refusal(c, p),
+    }
+}
+
+// Checks a file, and fills the lent card memory.
+#[no_mangle]
+pub extern "C" fn rafterclary_check(file: &[u8], cards: &mut [u8]) -> u32
+    ensures { λ r. ⌜ (r ≡ packed (check (now (file .entry)) (now (cards .entry)) .reply)) × (now (cards .exit) ≡ check (now (file .entry)) (now (cards .entry)) .memory) ⌝ }
+{
+    let reply = check(file, cards);
+    pack(reply)
+}
+
+// The level of an expression at the end of the module of that name, a level being given for each of its parameters.
+#[no_mangle]
+pub extern "C" fn rafterclary_level(
+    file: &[u8],
+    cards: &mut [u8],
+    module: u16,
+    expr: &[u8],
+    levels: &[u8],
+) -> u32
+    ensures { λ r. ⌜ (r ≡ packed (levelQuery (now (file .entry)) (now (cards .entry)) «module» (now (levels .entry)) (now (expr .entry)) .reply)) × (now (cards .exit) ≡ levelQuery (now (file .entry)) (now (cards .entry)) «module» (now (levels .entry)) (now (expr .entry)) .memory) ⌝ }
+{
+    let reply = level(file, cards, module, expr, levels);
+    pack_level(reply)
+}
+
+// Whether two definitions, given by their numbers, are alike.
+#[no_mangle]
+pub extern "C" fn rafterclary_alike(file: &[u8], cards: &mut [u8], a: u32, b: u32) -> u32
+    ensures { λ r. ⌜ (r ≡ packedTruth (alikeQuery (now (file .entry)) (now (cards .entry)) a b .reply)) × (now (cards .exit) ≡ alikeQuery (now (file .entry)) (now (cards .entry)) a b .memory) ⌝ }
+{
+    let reply = alike(file, cards, a, b);
+    pack_alike(reply)
+}
+
+// The part of the file that holds the body of a definition, given by its number.
+#[no_mangle]
+pub extern "C" fn rafterclary_body(file: &[u8], cards: &mut [u8], d: u32) -> u64
+    ensures { λ r. ⌜ (r ≡ packedSpan (bodyQuery (now (file .entry)) (now (cards .entry)) d .reply)) × (now (cards .exit) ≡ bodyQuery (now (file .entry)) (now (cards .entry)) d .memory) ⌝ }
+{
+    let reply = body(file, cards, d);
+    pack_body(reply)
+}

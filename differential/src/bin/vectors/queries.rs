@@ -1,0 +1,580 @@
+//! Queries for the gate: the trial lines of paper 01, both sides of every rule about a query, the
+//! samples, and generated ones of every kind of answer.
+
+use crate::{module, reply_line, sample_files, three, MEMORY};
+use differential::cases::{Call, Case};
+use differential::checker::{Offer, Reference};
+use differential::model::Model;
+use differential::random::Random;
+use differential::syntax::{
+    self, always, and, b, brought, instance, lit, n, op, p, prime, tree_of, wrap, Expr, Field,
+};
+use differential::{accepted, queries};
+use std::collections::BTreeMap;
+use std::io;
+use std::path::Path;
+
+/// A query with a name to find it by.
+pub struct Query {
+    pub label: String,
+    pub file: Vec<u8>,
+    pub call: Call,
+    /// Bytes of card memory.
+    pub lent: usize,
+}
+
+impl Query {
+    /// The bytes that the gate's program reads after the file: kind, two numbers, levels and
+    /// expression, each of these after its length. Kind 4 is kept for the expansion.
+    pub fn bytes(&self) -> Vec<u8> {
+        let (kind, first, second, levels, expr) = match &self.call {
+            Call::Level {
+                module,
+                expr,
+                levels,
+            } => (1, u32::from(*module), 0, &levels[..], &expr[..]),
+            Call::Alike { a, b } => (2, *a, *b, &[][..], &[][..]),
+            Call::Body { d } => (3, *d, 0, &[][..], &[][..]),
+            Call::Check | Call::Expand { .. } => unreachable!("kept out"),
+        };
+        let mut bytes = Vec::new();
+        for number in [kind, first, second] {
+            bytes.extend(three(number as usize));
+        }
+        for part in [levels, expr] {
+            bytes.extend(three(part.len()));
+            bytes.extend(part);
+        }
+        bytes
+    }
+
+    /// The query in a few words.
+    pub fn words(&self) -> String {
+        let mut words = self.call.to_string();
+        if let Some((cut, _)) = words.char_indices().nth(100) {
+            words.truncate(cut);
+            words.push_str(" ..");
+        }
+        words
+    }
+
+    /// The reference's answer, with a sum over all the memory.
+    pub fn answer(&self) -> String {
+        let mut memory = crate::marked();
+        let reply = self
+            .call
+            .make(&Reference, &self.file, &mut memory[..self.lent], &mut []);
+        let case = Case::new(&self.file, self.call.clone());
+        let outcome = differential::cases::Outcome {
+            reply,
+            cards: Vec::new(),
+            out: Vec::new(),
+        };
+        let value = match self.call {
+            Call::Body { .. } => format!("{} {}", reply >> 16, reply & 0xFFFF),
+            _ => reply.to_string(),
+        };
+        reply_line(case.refusal(&outcome), &value, &memory)
+    }
+}
+
+/// Names of the file that the trial lines are asked of.
+mod name {
+    pub const X: u16 = 1;
+    pub const Y: u16 = 2;
+    pub const C: u16 = 3;
+    pub const F: u16 = 4;
+    pub const G: u16 = 5;
+    pub const K: u16 = 6;
+    pub const U: u16 = 7;
+    pub const D: u16 = 8;
+    pub const I: u16 = 9;
+    pub const J: u16 = 10;
+}
+
+/// Modules of that file: the lines' own, N, one that brings N's definition, and one beside them.
+const LINES: u16 = 1;
+const N: u16 = 2;
+const BRINGS: u16 = 3;
+const BESIDE: u16 = 4;
+
+fn module_n() -> Vec<Field> {
+    let u = || n(name::U, &[]);
+    let k = n(name::K, &[prime(u()), always(u())]);
+    vec![
+        Field::Module(N),
+        Field::Constant(name::K, 2),
+        Field::Variable(name::U),
+        Field::Definition(name::D, 0, always(k)),
+        Field::End,
+    ]
+}
+
+fn trial_file() -> Vec<Field> {
+    let mut fields = vec![
+        Field::Module(LINES),
+        Field::Variable(name::X),
+        Field::Variable(name::Y),
+        Field::Constant(name::C, 0),
+        Field::Definition(name::F, 1, lit(0)),
+        Field::Definition(name::G, 2, always(and(p(0), p(1)))),
+        Field::End,
+    ];
+    fields.extend(module_n());
+    let both = [(name::K, and(p(0), p(1)))];
+    let over = [(name::K, and(p(1), p(2))), (name::U, p(0))];
+    fields.extend([
+        Field::Module(BRINGS),
+        Field::Variable(name::U),
+        instance(name::I, 0, N, &both),
+        instance(name::J, 1, N, &over),
+        Field::End,
+        Field::Module(BESIDE),
+        Field::Constant(name::X, 1),
+        Field::End,
+    ]);
+    fields
+}
+
+/// A level query.
+fn level(module: u16, expr: &Expr, levels: &[u8]) -> Call {
+    level_of(module, expr.bytes(), levels)
+}
+
+fn level_of(module: u16, expr: Vec<u8>, levels: &[u8]) -> Call {
+    let levels = levels.to_vec();
+    Call::Level {
+        module,
+        expr,
+        levels,
+    }
+}
+
+/// The trial lines of paper 01 that are levels, as queries.
+fn trial_lines() -> Vec<(&'static str, Call)> {
+    let (x, y, c) = (|| n(name::X, &[]), || n(name::Y, &[]), || n(name::C, &[]));
+    let plus = |left, right| op(52, &[left, right]);
+    let over = |left, right| op(53, &[left, right]);
+    let g = |left, right| n(name::G, &[left, right]);
+    let step = over(prime(x()), plus(y(), c()));
+    let hidden = |body| op(140, &[body]);
+    let line = |expr: Expr| level(LINES, &expr, &[]);
+    vec![
+        ("c + 3", line(plus(c(), lit(3)))),
+        ("x + 2 * c", line(plus(x(), op(54, &[lit(2), c()])))),
+        ("x' + y > c", line(over(plus(prime(x()), y()), c()))),
+        ("[][x' > y + c]_x", line(op(120, &[step, x()]))),
+        ("(x' + 1)'", line(prime(plus(prime(x()), lit(1))))),
+        ("c'", line(prime(c()))),
+        ("ENABLED x'", line(op(113, &[prime(x())]))),
+        ("[]x'", line(always(prime(x())))),
+        ("F((x')')", line(n(name::F, &[prime(prime(x()))]))),
+        ("G at (2, 3)", level(LINES, &g(p(0), p(1)), &[2, 3])),
+        ("G at (2, 0)", level(LINES, &g(p(0), p(1)), &[2, 0])),
+        ("G(x', []x)", line(g(prime(x()), always(x())))),
+        ("G(x', 0)", line(g(prime(x()), lit(0)))),
+        ("\\EE z: z", line(hidden(b(0)))),
+        ("\\EE z: z'", line(hidden(prime(b(0))))),
+        ("D of N", level(N, &n(name::D, &[]), &[])),
+    ]
+}
+
+/// Queries of the trial file on both sides of every rule.
+fn rules() -> Vec<(&'static str, Call)> {
+    let x = || n(name::X, &[]);
+    let bytes = |bytes: &[u8]| level_of(LINES, bytes.to_vec(), &[]);
+    let line = |expr: Expr| level(LINES, &expr, &[]);
+    let brought_d = |name, arguments: &[Expr]| brought(name, name::D, arguments);
+    let wide = tree_of(40_000, &|_| prime(n(name::X, &[])));
+    vec![
+        // The module.
+        ("x in another module", level(BESIDE, &x(), &[])),
+        (
+            "x of one argument there",
+            level(BESIDE, &n(name::X, &[lit(0)]), &[]),
+        ),
+        ("module 0", level(0, &x(), &[])),
+        ("a module that there is not", level(99, &x(), &[])),
+        ("no module before layout", level_of(99, vec![], &[5])),
+        ("the name of an operator", level(name::G, &x(), &[])),
+        // 3
+        ("empty", bytes(&[])),
+        ("cut", bytes(&[4, 49, 5, 0, 1])),
+        ("left over", bytes(&[5, 0, 1, 0])),
+        ("token 6", bytes(&[6])),
+        ("code 104", bytes(&[4, 104])),
+        ("code 126", bytes(&[4, 126])),
+        ("code 142", bytes(&[4, 142])),
+        ("name 0", bytes(&[2, 0, 0, 0])),
+        ("I!F, I named 0", bytes(&[3, 0, 0, 0, 8, 0])),
+        ("I!F, F named 0", bytes(&[3, 0, 9, 0, 0, 0])),
+        ("a level of 5", level(LINES, &p(0), &[5])),
+        ("a level of 255", level(LINES, &p(0), &[0, 255])),
+        (
+            "a level of 5 among four",
+            level(LINES, &p(0), &[0, 0, 0, 5]),
+        ),
+        (
+            "cut and four parameters",
+            level_of(LINES, vec![4, 49], &[0; 4]),
+        ),
+        // 5
+        ("three parameters", level(LINES, &p(2), &[1, 2, 3])),
+        ("four parameters", level(LINES, &p(0), &[0; 4])),
+        ("256 parameters", level(LINES, &p(0), &[0; 256])),
+        ("257 parameters", level(LINES, &p(0), &[0; 257])),
+        ("nesting 32", line(wrap(31, x()))),
+        ("nesting 33", line(wrap(32, x()))),
+        (
+            "nesting 33 in what is dropped",
+            line(n(name::F, &[wrap(31, x())])),
+        ),
+        ("four arguments", line(Expr::Name(99, vec![lit(0); 4]))),
+        (
+            "four arguments of I!F",
+            line(Expr::Brought(99, 1, vec![lit(0); 4])),
+        ),
+        // 9
+        ("an unknown name", line(n(99, &[]))),
+        ("a name of another module", line(n(name::K, &[x(), x()]))),
+        ("an unknown name, dropped", line(n(name::F, &[n(99, &[])]))),
+        ("a parameter that is not given", level(LINES, &p(1), &[0])),
+        ("a bound variable without a binder", line(b(0))),
+        (
+            "a bound variable outside its binder",
+            line(op(132, &[b(0), b(0)])),
+        ),
+        ("a bound variable", line(op(132, &[lit(0), and(b(0), x())]))),
+        (
+            "an instance as an operator",
+            level(BRINGS, &n(name::I, &[]), &[]),
+        ),
+        (
+            "an operator as an instance",
+            line(brought(name::F, name::D, &[])),
+        ),
+        (
+            "what an instance does not bring",
+            level(BRINGS, &brought(name::I, name::F, &[]), &[]),
+        ),
+        (
+            "a brought name by itself",
+            level(BRINGS, &n(name::D, &[]), &[]),
+        ),
+        // 10
+        ("an argument too few", line(n(name::G, &[x()]))),
+        ("an argument too many", line(n(name::X, &[x()]))),
+        (
+            "wrong arguments, dropped",
+            line(n(name::F, &[n(name::F, &[])])),
+        ),
+        (
+            "I!F without the instance's argument",
+            level(BRINGS, &brought_d(name::J, &[]), &[]),
+        ),
+        (
+            "unknown before wrong arguments",
+            line(and(n(name::F, &[]), n(99, &[]))),
+        ),
+        ("too deep before unknown", line(wrap(32, n(99, &[])))),
+        // Levels.
+        ("I!F", level(BRINGS, &brought_d(name::I, &[]), &[])),
+        (
+            "I!F of a constant",
+            level(BRINGS, &brought_d(name::J, &[lit(0)]), &[]),
+        ),
+        (
+            "I!F of a transition",
+            level(BRINGS, &brought_d(name::J, &[p(0)]), &[2]),
+        ),
+        (
+            "level 4 under a dropping operator",
+            line(n(name::F, &[prime(prime(x()))])),
+        ),
+        ("a parameter at 4", level(LINES, &p(0), &[4])),
+        (
+            "a parameter at 4, dropped",
+            level(LINES, &n(name::F, &[p(0)]), &[4]),
+        ),
+        ("40,000 bytes", level(LINES, &wide, &[])),
+        // Definitions.
+        ("alike itself", Call::Alike { a: 1, b: 1 }),
+        (
+            "alike, one brought from the other",
+            Call::Alike { a: 2, b: 3 },
+        ),
+        ("unlike parameter counts", Call::Alike { a: 0, b: 1 }),
+        ("alike, the second not there", Call::Alike { a: 0, b: 5 }),
+        ("alike, the first not there", Call::Alike { a: 5, b: 0 }),
+        (
+            "alike, both not there",
+            Call::Alike {
+                a: 65_536,
+                b: 65_536,
+            },
+        ),
+        ("body of the first", Call::Body { d: 0 }),
+        ("body of the second", Call::Body { d: 1 }),
+        ("body in a later module", Call::Body { d: 2 }),
+        ("body of a brought definition", Call::Body { d: 3 }),
+        ("body of one brought with a parameter", Call::Body { d: 4 }),
+        ("body of the next after the last", Call::Body { d: 5 }),
+        ("body of number 256", Call::Body { d: 256 }),
+        ("body of number 65,536", Call::Body { d: 65_536 }),
+    ]
+}
+
+/// Likeness where one entry tells, or the parameter count alone.
+fn likeness() -> Vec<(&'static str, Vec<u8>, Call)> {
+    let takes = |code| op(code, &[p(0)]);
+    let beside = |inner: Expr| and(always(lit(0)), inner);
+    let x = || n(90, &[]);
+    let file = module(&[
+        Field::Variable(90),
+        Field::Definition(1, 0, lit(0)),
+        Field::Definition(2, 1, lit(0)),
+        Field::Definition(3, 1, n(2, &[p(0)])),
+        Field::Definition(4, 1, takes(112)),
+        Field::Definition(5, 1, takes(114)),
+        Field::Definition(6, 1, takes(113)),
+        Field::Definition(7, 1, p(0)),
+        Field::Definition(8, 1, and(p(0), x())),
+        Field::Definition(9, 1, beside(p(0))),
+        Field::Definition(10, 1, always(lit(0))),
+        Field::Definition(11, 3, and(p(0), and(p(1), p(2)))),
+        Field::Definition(12, 3, and(p(2), and(p(0), p(1)))),
+        Field::Definition(13, 3, beside(and(p(0), and(p(1), p(2))))),
+        Field::Definition(14, 3, beside(and(p(0), p(1)))),
+    ]);
+    let ask = |label, a, b| (label, file.clone(), Call::Alike { a, b });
+    vec![
+        ask("equal entries, other counts", 0, 1),
+        ask("dropped here or there", 1, 2),
+        ask("prime and UNCHANGED", 3, 4),
+        ask("prime and ENABLED", 3, 5),
+        ask("unlike at 0 only", 6, 7),
+        ask("unlike at 4 only", 8, 9),
+        ask("the same the other way round", 9, 8),
+        ask("three parameters in another order", 10, 11),
+        ask("three parameters, unlike with the last at 4 only", 12, 13),
+    ]
+}
+
+/// Brought bodies: through a chain, and through EXTENDS.
+fn bodies() -> Vec<(String, Vec<u8>, Call)> {
+    let file = syntax::file(&[
+        Field::Module(1),
+        Field::Constant(1, 0),
+        Field::Definition(2, 1, and(p(0), n(1, &[]))),
+        Field::Definition(3, 0, lit(3)),
+        Field::End,
+        Field::Module(2),
+        Field::Extends(vec![1]),
+        Field::Definition(4, 0, n(3, &[])),
+        Field::End,
+        Field::Module(3),
+        Field::Variable(5),
+        instance(0, 0, 2, &[(1, n(5, &[]))]),
+        Field::Definition(6, 0, n(4, &[])),
+        Field::End,
+        Field::Module(4),
+        instance(7, 2, 3, &[(5, p(1))]),
+        Field::End,
+    ]);
+    (0..11)
+        .map(|d| {
+            let label = format!("brought bodies, {d}");
+            (label, file.clone(), Call::Body { d })
+        })
+        .collect()
+}
+
+/// Queries of files that are refused: the file comes first.
+fn refused_files() -> Vec<(&'static str, Vec<u8>, Call)> {
+    let mut first = module_n();
+    first.extend([
+        Field::Module(BRINGS),
+        Field::Variable(name::U),
+        instance(0, 0, N, &[(name::K, p(0))]),
+        Field::End,
+    ]);
+    let fifteen = syntax::file(&first);
+    let open = syntax::file(&trial_file()[..6]);
+    let wrong = level_of(99, vec![], &[9, 9, 9, 9]);
+    let alike = Call::Alike { a: 99, b: 99 };
+    let body = Call::Body { d: 99 };
+    vec![
+        (
+            "trial line: K takes its first argument",
+            fifteen.clone(),
+            level(N, &lit(0), &[]),
+        ),
+        (
+            "refused, and no such module",
+            fifteen.clone(),
+            wrong.clone(),
+        ),
+        ("refused, alike", fifteen.clone(), alike.clone()),
+        ("refused, body", fifteen, body.clone()),
+        ("ends inside a module", open.clone(), wrong),
+        ("ends inside a module, alike", open, alike),
+        ("empty file, body", Vec::new(), body),
+    ]
+}
+
+/// Memory lent for generated queries, in turn.
+const LENT: [usize; 3] = [32_000, 40_000, 32_001];
+/// At most so many generated queries of one kind of answer.
+const EACH: usize = 12;
+/// Files larger than this are left to the comparison.
+const SMALL: usize = 600;
+
+/// Generated queries, by kind of answer.
+fn generated() -> Vec<Query> {
+    let mut kinds: BTreeMap<String, usize> = BTreeMap::new();
+    let mut all = Vec::new();
+    for seed in 0..400 {
+        let mut random = Random::new(seed);
+        let grown = match seed % 3 {
+            0 => accepted::grow_chain(&mut random),
+            _ => accepted::grow(
+                &mut random,
+                60 + 2 * seed as usize % 300,
+                1 + seed as usize % 4,
+            ),
+        };
+        let file = grown.bytes();
+        if file.len() > SMALL {
+            continue;
+        }
+        let mut memory = vec![0; MEMORY];
+        reference::packed_check(&file, &mut memory);
+        let model = Model::of(&grown.fields, &memory);
+        for _ in 0..12 {
+            let query = queries::query(&mut random, &file, &model);
+            let Case { file, call, .. } = query.case;
+            // Numbers of the gate's program have three bytes, and its memory is what it is.
+            let beyond = match call {
+                Call::Alike { a, b } => a.max(b) >= 1 << 24,
+                Call::Body { d } => d >= 1 << 24,
+                Call::Level { ref expr, .. } => expr.len() > 400,
+                _ => true,
+            };
+            if beyond || call.wants() > Offer::Queries {
+                continue;
+            }
+            let case = Case::new(&file, call.clone());
+            let outcome = case.run(&Reference);
+            let what = match (&call, case.refusal(&outcome)) {
+                (Call::Level { .. }, None) => format!("level {}", outcome.reply),
+                (Call::Level { .. }, Some((cause, _))) => format!("level refused {cause}"),
+                (Call::Alike { .. }, None) => format!("alike {}", outcome.reply),
+                (Call::Alike { .. }, _) => "alike refused".into(),
+                (_, None) => query.label.unwrap_or("body").into(),
+                _ => "body refused".into(),
+            };
+            let count = kinds.entry(what.clone()).or_default();
+            *count += 1;
+            if *count <= EACH {
+                all.push(Query {
+                    label: format!("generated, {what}, {count}"),
+                    file,
+                    call,
+                    lent: LENT[*count % LENT.len()],
+                });
+            }
+        }
+    }
+    all
+}
+
+/// For each sample that is accepted: its last definition over parameters at 0, 1 and 2, its body,
+/// and whether it is like the first.
+fn of_samples(samples: &Path) -> io::Result<Vec<Query>> {
+    let mut all = Vec::new();
+    for (label, file) in sample_files(samples)? {
+        let mut memory = vec![0; MEMORY];
+        if reference::packed_check(&file, &mut memory) > 256 {
+            continue;
+        }
+        let model = Model::of(&syntax::fields(&file), &memory);
+        let last = model.definitions.len() as u32 - 1;
+        let mut calls = vec![
+            Call::Body { d: last },
+            Call::Body { d: last + 1 },
+            Call::Alike { a: 0, b: last },
+        ];
+        for module in &model.modules {
+            let operators = module.scope.operators.iter().map(|each| (0, each));
+            let named = module.scope.instances.iter();
+            let named = named.flat_map(|each| each.operators.iter().map(|one| (each.name, one)));
+            if let Some((within, operator)) = operators.chain(named).last() {
+                let arguments: Vec<Expr> = (0..operator.count).map(p).collect();
+                let expr = match within {
+                    0 => Expr::Name(operator.name, arguments),
+                    _ => Expr::Brought(within, operator.name, arguments),
+                };
+                calls.push(level(
+                    module.name,
+                    &expr,
+                    &[0, 1, 2][..operator.count.into()],
+                ));
+            }
+        }
+        all.extend(calls.into_iter().map(|call| Query {
+            label: label.clone(),
+            file: file.clone(),
+            call,
+            lent: 32_000,
+        }));
+    }
+    Ok(all)
+}
+
+/// Every stored query.
+pub fn all(samples: &Path) -> io::Result<Vec<Query>> {
+    let trial = syntax::file(&trial_file());
+    let mut all = Vec::new();
+    let mut add = |label: String, file: &[u8], call, lent| {
+        all.push(Query {
+            label,
+            file: file.to_vec(),
+            call,
+            lent,
+        });
+    };
+    for (label, call) in trial_lines() {
+        add(format!("trial line: {label}"), &trial, call, 32_000);
+    }
+    for (label, call) in rules() {
+        add(label.into(), &trial, call, 32_000);
+    }
+    for (lent, what) in [
+        (31_999, "one byte short"),
+        (0, "no memory"),
+        (40_000, "more"),
+    ] {
+        let asked = [
+            level(LINES, &n(name::X, &[]), &[]),
+            level_of(99, vec![], &[9]),
+            Call::Alike { a: 0, b: 1 },
+            Call::Body { d: 0 },
+            Call::Body { d: 99 },
+        ];
+        for call in asked {
+            add(format!("card memory, {what}"), &trial, call, lent);
+        }
+    }
+    for (label, file, call) in likeness() {
+        add(format!("alike: {label}"), &file, call, 32_001);
+    }
+    for (label, file, call) in bodies() {
+        add(label, &file, call, 32_001);
+    }
+    for (label, file, call) in refused_files() {
+        add(label.into(), &file, call, 40_000);
+    }
+    all.extend(of_samples(samples)?);
+    all.extend(generated());
+    Ok(all)
+}
