@@ -1,9 +1,10 @@
 /* The proved level checker, librafterclary.a (`rt staticlib rafterclary`).
  *
  * A slice is a pointer and a length; the pointer may be anything, but not null, where the length
- * is 0. Lent memory must not overlap what is only read. It is written only as paper 01 says: the
- * card memory, and of that the first 32,000 bytes at most. A call needs about 0.8 MB of native
- * stack for its tables.
+ * is 0. Lent memory must not overlap what is only read, nor other lent memory. It is written only
+ * as paper 01 says: the card memory, and of that the first 32,000 bytes at most, and the output of
+ * an expansion, and of that its length. The tables of a call are on the native stack: 435 KB,
+ * of an expansion 905 KB.
  *
  * Every call checks the file afresh and fills the card memory, as a check does: an accepted
  * file's cards are there after a query too, whether it is answered or refused.
@@ -53,6 +54,19 @@ uint64_t rafterclary_body(const uint8_t *file, size_t file_length, uint8_t *card
 #define RAFTERCLARY_BODY_PLACE(reply) ((uint32_t)((reply) & 0xffffu))
 #define RAFTERCLARY_BODY_START(reply) ((size_t)((reply) >> 16))
 #define RAFTERCLARY_BODY_LENGTH(reply) ((size_t)((reply) & 0xffffu))
+
+/* The longest expansion: an output of this length is never too short. */
+#define RAFTERCLARY_EXPANSION 65535u
+
+/* The expansion of an expression over so many parameters, 0 to 3, at the end of a module, written
+ * to the output: replies with its length. A refusal, of number 18 if the expansion is longer than
+ * the output or than 65,535 bytes, leaves the output as it was. An expression may have any length.
+ * The place of a refusal of the expression or of a fourth parameter is the number of the file's
+ * fields. */
+uint32_t rafterclary_expand(const uint8_t *file, size_t file_length, uint8_t *cards,
+                            size_t cards_length, uint16_t module, const uint8_t *expression,
+                            size_t expression_length, uint8_t params, uint8_t *out,
+                            size_t out_length);
 
 #ifdef __cplusplus
 }

@@ -42,6 +42,19 @@ mod linked {
             cards_length: usize,
             definition: u32,
         ) -> u64;
+
+        pub fn rafterclary_expand(
+            file: *const u8,
+            file_length: usize,
+            cards: *mut u8,
+            cards_length: usize,
+            module: u16,
+            expression: *const u8,
+            expression_length: usize,
+            params: u8,
+            out: *mut u8,
+            out_length: usize,
+        ) -> u32;
     }
 }
 
@@ -51,8 +64,11 @@ pub const CARD_MEMORY: usize = 32_000;
 /// The bytes of one card.
 pub const CARD: usize = 125;
 
+/// The bytes of the longest expansion: an output of this length is never too short.
+pub const EXPANSION: usize = 65_535;
+
 /// A call is refused: by what cause, numbered as in paper 01, and at which field, counted from 0.
-/// For a query's expression and its levels the place is the number of fields.
+/// For a query's expression and its parameters the place is the number of fields.
 #[derive(Clone, Copy, Debug, PartialEq, Eq)]
 pub struct Refusal {
     pub number: u32,
@@ -77,7 +93,7 @@ fn reply(packed: u32) -> Result<u32, Refusal> {
     }
 }
 
-// In each call below the pointers and lengths are those of live slices, the lent one exclusive,
+// In each call below the pointers and lengths are those of live slices, the lent ones exclusive,
 // and the library keeps none of them.
 
 /// The library's reply to a check as it is.
@@ -135,6 +151,31 @@ pub fn body_packed(file: &[u8], cards: &mut [u8], definition: u32) -> u64 {
     }
 }
 
+/// The library's reply to an expansion query as it is.
+pub fn expand_packed(
+    file: &[u8],
+    cards: &mut [u8],
+    module: u16,
+    expression: &[u8],
+    params: u8,
+    out: &mut [u8],
+) -> u32 {
+    unsafe {
+        linked::rafterclary_expand(
+            file.as_ptr(),
+            file.len(),
+            cards.as_mut_ptr(),
+            cards.len(),
+            module,
+            expression.as_ptr(),
+            expression.len(),
+            params,
+            out.as_mut_ptr(),
+            out.len(),
+        )
+    }
+}
+
 /// Checks a file: the number of its definitions, whose cards are then in the card memory, 125
 /// bytes each.
 pub fn check(file: &[u8], cards: &mut [u8]) -> Result<u32, Refusal> {
@@ -170,9 +211,25 @@ pub fn body(file: &[u8], cards: &mut [u8], definition: u32) -> Result<Range<usiz
     }
 }
 
+/// The expansion of an expression over so many parameters at the end of a module: the part of the
+/// output that it is written to. A refusal leaves the output as it was. An expression may have any
+/// length.
+pub fn expand<'o>(
+    file: &[u8],
+    cards: &mut [u8],
+    module: u16,
+    expression: &[u8],
+    params: u8,
+    out: &'o mut [u8],
+) -> Result<&'o [u8], Refusal> {
+    let length = reply(expand_packed(file, cards, module, expression, params, out))?;
+    Ok(&out[..length as usize])
+}
+
 #[cfg(test)]
 mod tests {
     use super::*;
+    use std::thread;
 
     /// Paper 01's example: one definition, p', of its own parameter.
     const EXAMPLE: [u8; 23] = [
@@ -252,6 +309,76 @@ mod tests {
         assert_eq!(body(&EXAMPLE, &mut cards, 0), Ok(16..20));
         assert_eq!(body(&EXAMPLE, &mut cards, 1), refused(17, 0));
         assert!(filled(&cards));
+    }
+
+    /// A thread of a test may have less stack than an expansion wants.
+    fn with_stack(test: impl FnOnce() + Send + 'static) {
+        let thread = thread::Builder::new().stack_size(16 << 20);
+        thread.spawn(test).expect("a thread").join().expect("it");
+    }
+
+    /// What an expansion into so many bytes gives; all else has to be as 01 says.
+    fn expansion(
+        module: u16,
+        expression: &[u8],
+        params: u8,
+        room: usize,
+    ) -> Result<Vec<u8>, Refusal> {
+        let (mut cards, mut out) = (memory(), vec![7; room]);
+        let reply = expand(&EXAMPLE, &mut cards, module, expression, params, &mut out);
+        let reply = reply.map(<[u8]>::to_vec);
+        assert!(filled(&cards));
+        let written = reply.as_ref().map_or(0, Vec::len);
+        assert!(out[written..].iter().all(|&byte| byte == 7));
+        reply
+    }
+
+    #[test]
+    fn expansions() {
+        with_stack(|| {
+            let prime = [4, 112];
+            let defined = [&[2, 0, 3, 1][..], &X].concat();
+            let expected = [&prime[..], &X].concat();
+            for room in [6, 7, 65_535, 65_536] {
+                assert_eq!(expansion(1, &defined, 0, room), Ok(expected.clone()));
+            }
+            let twice = [&[2, 0, 3, 1][..], &defined].concat();
+            let expected = [&prime[..], &expected].concat();
+            assert_eq!(expansion(1, &twice, 0, 99), Ok(expected));
+            let over = [2, 0, 3, 1, 0, 2];
+            assert_eq!(expansion(1, &over, 3, 4), Ok(vec![4, 112, 0, 2]));
+        });
+    }
+
+    #[test]
+    fn expansions_refused() {
+        with_stack(|| {
+            let defined = [&[2, 0, 3, 1][..], &X].concat();
+            for room in [0, 5] {
+                assert_eq!(expansion(1, &defined, 0, room), refused(18, 0));
+            }
+            assert_eq!(expansion(2, &[], 9, 0), refused(17, 0));
+            assert_eq!(expansion(1, &[], 4, 0), refused(3, FIELDS));
+            assert_eq!(expansion(1, &X, 4, 99), refused(5, FIELDS));
+            assert_eq!(expansion(1, &X, 255, 99), refused(5, FIELDS));
+            assert_eq!(expansion(1, &[0, 0], 0, 99), refused(9, FIELDS));
+            assert_eq!(expansion(1, &[2, 0, 3, 0], 0, 99), refused(10, FIELDS));
+        });
+    }
+
+    #[test]
+    fn the_file_comes_before_an_expansion() {
+        with_stack(|| {
+            let (mut cards, mut out) = (memory(), [7; 40]);
+            let open = &EXAMPLE[..20];
+            let reply = expand(open, &mut cards, 9, &[], 9, &mut out).map(<[u8]>::len);
+            assert_eq!(reply, refused(4, 3));
+            assert!(cleared(&cards));
+            let mut short = [7; CARD_MEMORY - 1];
+            let reply = expand(&EXAMPLE, &mut short, 1, &X, 0, &mut out).map(<[u8]>::len);
+            assert_eq!(reply, refused(1, 0));
+            assert!(short.iter().chain(&out).all(|&byte| byte == 7));
+        });
     }
 
     #[test]

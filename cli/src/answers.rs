@@ -74,6 +74,43 @@ pub struct Level {
     pub level: u8,
 }
 
+/// A query for an expansion.
+#[derive(Serialize)]
+pub struct ExpansionAsked {
+    pub module: String,
+    pub expression: String,
+    pub hexadecimal: String,
+    pub parameters: Vec<Named>,
+}
+
+#[derive(Serialize)]
+pub struct Named {
+    pub name: String,
+}
+
+impl ExpansionAsked {
+    pub fn new(module: String, question: &Question) -> ExpansionAsked {
+        let parameters = question.parameters.iter().map(|each| Named {
+            name: each.name.clone(),
+        });
+        ExpansionAsked {
+            module,
+            expression: question.text.clone(),
+            hexadecimal: hexadecimal(&question.bytes),
+            parameters: parameters.collect(),
+        }
+    }
+}
+
+#[derive(Serialize)]
+pub struct Expansion {
+    /// In bytes.
+    pub length: usize,
+    /// In the readable notation.
+    pub expansion: String,
+    pub expansion_hexadecimal: String,
+}
+
 /// A query about two definitions.
 #[derive(Serialize)]
 pub struct AlikeAsked {

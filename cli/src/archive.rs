@@ -1,5 +1,6 @@
 //! The proved archive.
 
+use checker::EXPANSION;
 pub use checker::{Refusal, CARD};
 use std::ops::Range;
 
@@ -37,6 +38,20 @@ pub fn level(file: &[u8], module: u16, expression: &[u8], levels: &[u8]) -> Resu
 /// Whether two definitions are alike.
 pub fn alike(file: &[u8], a: u32, b: u32) -> Result<bool, Refusal> {
     checker::alike(file, &mut memory(), a, b)
+}
+
+/// The expansion of an expression over parameters at the end of a module.
+pub fn expand(
+    file: &[u8],
+    module: u16,
+    expression: &[u8],
+    parameters: usize,
+) -> Result<Vec<u8>, Refusal> {
+    // A number that a byte does not hold is as many too many as 255 are.
+    let params = u8::try_from(parameters).unwrap_or(u8::MAX);
+    let mut out = vec![0; EXPANSION];
+    let expansion = checker::expand(file, &mut memory(), module, expression, params, &mut out)?;
+    Ok(expansion.to_vec())
 }
 
 /// The part of the file that holds a definition's body.

@@ -12,6 +12,7 @@ Examples:
   rafterclary level panel.tla Panel \"scale + p\" p=1
   rafterclary alike panel.bin 0 7          whether two definitions have one card
   rafterclary body panel.bin 7             the bytes that hold a definition's body
+  rafterclary expand panel.tla Panel \"Head!Depth(p)\" --params p
   rafterclary list --json panel.bin        every card, for a script
   rafterclary convert panel.tla -o panel.bin
   rafterclary explain 14                   what refusal 14 means
@@ -46,6 +47,19 @@ Examples:
   rafterclary body --json samples/channel.bin 50
 
 Exit status: 0 answered, 1 refused, 2 misuse.";
+
+const EXPAND_EXAMPLES: &str = "\
+Examples:
+  rafterclary expand samples/depth-lawful.tla Panel 'Head!Sink'
+  rafterclary expand samples/trial-levels.tla Trial \"G(p, F(q'))\" --params p,q
+  rafterclary expand samples/example.bin 1 \"n3(p0)\" --params p0
+  rafterclary expand samples/example.bin 1 --hex \"02 0003 01 02 0002 00\"
+
+The expansion is printed in the readable notation, and below it the number of its bytes. What an
+operator drops is gone. An expansion of more than 65,535 bytes is refused by cause 18. Names without
+a spelling are n1, n2 and so on.
+
+Exit status: 0 answered, level-correct or not; 1 refused, 2 misuse.";
 
 /// The proved level checker for TLA+ modules.
 #[derive(Parser)]
@@ -149,6 +163,21 @@ pub enum Command {
         file: PathBuf,
         /// Number or name, as of `card`
         definition: String,
+    },
+    /// Expand an expression at the end of a module: no defined name is left in it
+    #[command(after_help = EXPAND_EXAMPLES)]
+    Expand {
+        file: PathBuf,
+        /// The module's name, or its number
+        module: String,
+        /// In the readable notation, over the names of the module and of the parameters
+        expression: String,
+        /// The names of its parameters, with commas between them
+        #[arg(long, value_name = "NAMES", value_delimiter = ',')]
+        params: Vec<String>,
+        /// The expression is given as bytes in hexadecimal
+        #[arg(long)]
+        hex: bool,
     },
     /// Show a file as readable modules, with field numbers and offsets
     Show { file: PathBuf },

@@ -1,7 +1,7 @@
 //! `rafterclary`: the proved level checker for TLA+ modules, on the command line.
 //!
-//! Verdicts, cards and levels come from the proved archive and from nowhere else. What is here
-//! reads arguments, keeps book of names for printing, and puts a refusal into words.
+//! Verdicts, cards, levels and expansions come from the proved archive and from nowhere else. What
+//! is here reads arguments, keeps book of names for printing, and puts a refusal into words.
 
 #![forbid(unsafe_code)]
 

@@ -1,4 +1,5 @@
-//! A level query as it is given: a module, an expression, and levels for its parameters.
+//! A query as it is given: a module, an expression, its parameters, and their levels if it is for a
+//! level.
 
 use crate::args::Form;
 use crate::causes::LEVELS;
@@ -13,7 +14,7 @@ use notation::{DecodeError, Expr, Field, File, Names, Space};
 /// What an expression is called in what is printed.
 pub const NAME: &str = "the expression";
 
-/// A parameter with the level given for it.
+/// A parameter with the level given for it; 0 where levels do not matter.
 pub struct Parameter {
     pub name: String,
     pub level: u8,
@@ -37,17 +38,25 @@ pub enum Given<'g> {
     Bytes(&'g str),
 }
 
+impl<'g> Given<'g> {
+    pub fn new(expression: &'g str, hex: bool) -> Given<'g> {
+        match hex {
+            true => Given::Bytes(expression),
+            false => Given::Text(expression),
+        }
+    }
+}
+
 impl Question {
     pub fn new(
         input: &Input,
         module: &str,
         given: Given,
-        levels: &[String],
+        parameters: Vec<Parameter>,
         colors: Colors,
     ) -> Result<Question, Misuse> {
         let names = &input.file.names;
         let module = named_module(input, module)?;
-        let parameters = parameters(names, levels)?;
         let words: Vec<&str> = parameters.iter().map(|each| each.name.as_str()).collect();
         let (bytes, text) = match given {
             Given::Text(text) => match notation::parse_expression(text, names, &words) {
@@ -60,10 +69,8 @@ impl Question {
             },
             Given::Bytes(digits) => {
                 let bytes = hexadecimal(digits)?;
-                let written = Expr::decode(&bytes).map(|expression| {
-                    let words: Vec<String> = words.iter().map(|word| word.to_string()).collect();
-                    notation::print_expression_over(&expression, names, &words)
-                });
+                let written =
+                    Expr::decode(&bytes).map(|expression| written(&expression, names, &parameters));
                 (bytes, written.unwrap_or_default())
             }
         };
@@ -107,6 +114,12 @@ impl Question {
     }
 }
 
+/// An expression as the notation writes it, over parameters of these names.
+pub fn written(expression: &Expr, names: &Names, parameters: &[Parameter]) -> String {
+    let words: Vec<String> = parameters.iter().map(|each| each.name.clone()).collect();
+    notation::print_expression_over(expression, names, &words)
+}
+
 /// The number of a module: of its spelling, or of `n12`, or as it is.
 fn named_module(input: &Input, word: &str) -> Result<u16, Misuse> {
     let spelled = input.file.names.number(Space::Modules, word);
@@ -125,8 +138,17 @@ fn named_module(input: &Input, word: &str) -> Result<u16, Misuse> {
     })
 }
 
+/// Parameters by their names alone.
+pub fn named(words: &[String]) -> Vec<Parameter> {
+    let each = words.iter().map(|word| Parameter {
+        name: word.trim().to_string(),
+        level: 0,
+    });
+    each.collect()
+}
+
 /// `NAME=LEVEL`, or a level for a parameter that is called by its number.
-fn parameters(names: &Names, levels: &[String]) -> Result<Vec<Parameter>, Misuse> {
+pub fn levelled(names: &Names, levels: &[String]) -> Result<Vec<Parameter>, Misuse> {
     let each = levels.iter().enumerate().map(|(place, word)| {
         let (name, level) = match word.split_once('=') {
             Some((name, level)) => (name.to_string(), level),

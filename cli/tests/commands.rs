@@ -124,6 +124,8 @@ fn help() {
         "check",
         "list",
         "card",
+        "level",
+        "expand",
         "show",
         "explain",
         "convert",

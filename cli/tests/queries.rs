@@ -106,7 +106,7 @@ fn refused_in_words() {
             &["Trial", "x", "0", "0", "0", "0"],
             5,
             15,
-            "given for 4 parameters",
+            "4 parameters are given",
         ),
         (&["Trial", &deep], 5, 15, "nesting 33, and the limit is 32"),
         (&["Trial", "F(x, x, x, x)"], 5, 15, "given 4 arguments"),
@@ -275,7 +275,7 @@ fn examples_of_help() {
     let folders = std::iter::once(folder.to_path_buf()).chain(env::split_paths(&path));
     let path = env::join_paths(folders).expect("a path");
     let mut count = 0;
-    for command in ["level", "alike", "body"] {
+    for command in ["level", "alike", "body", "expand"] {
         let help = run(&[command, "--help"]);
         let lines = help.text().lines().map(str::trim);
         for line in
@@ -291,7 +291,7 @@ fn examples_of_help() {
             count += 1;
         }
     }
-    assert_eq!(count, 8);
+    assert_eq!(count, 12);
 }
 
 #[test]

@@ -3,6 +3,7 @@
 use crate::accepted::LARGEST;
 use crate::cases::Call;
 use crate::checker::Checker;
+use crate::expansions;
 use crate::queries::of_length;
 use crate::syntax::{
     self, always, and, b, brought, instance, lit, n, op, p, prime, tree, tree_of, Expr, Field,
@@ -57,7 +58,7 @@ impl Family {
     }
 }
 
-fn family(label: &str, file: &[u8], call: Call) -> Family {
+pub(crate) fn family(label: &str, file: &[u8], call: Call) -> Family {
     assert!(file.len() <= LARGEST, "{label}: {} bytes", file.len());
     Family {
         label: label.into(),
@@ -66,7 +67,7 @@ fn family(label: &str, file: &[u8], call: Call) -> Family {
     }
 }
 
-fn expand(module: u16, expr: Vec<u8>, room: usize) -> Call {
+pub(crate) fn expand(module: u16, expr: Vec<u8>, room: usize) -> Call {
     Call::Expand {
         module,
         expr,
@@ -397,12 +398,14 @@ fn full_tables() -> (Vec<u8>, u16) {
     (syntax::file(&fields), 5_255)
 }
 
-/// The families that are slow to answer if they are answered badly. `large` adds queries of 64 MB.
+/// The families that are slow to answer if they are answered badly. `large` adds queries of 30 and
+/// 64 MB.
 pub fn queries(large: bool) -> Vec<Family> {
     let x = || n(500, &[]);
     let room = 65_535;
     let mut all = towers();
     all.extend(brought_queries());
+    all.extend(expansions::all(large));
     all.extend([
         family(
             "i: identity tower",

@@ -8,6 +8,7 @@ pub mod cases;
 pub mod checker;
 pub mod coverage;
 pub mod damage;
+pub mod expansions;
 pub mod families;
 pub mod faults;
 pub mod faulty;

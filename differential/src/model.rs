@@ -52,6 +52,21 @@ impl Scope {
         operators.iter().find(|operator| operator.name == name)
     }
 
+    /// The last operator, those of named instances after all others, over as many parameters as it
+    /// takes; and how many those are.
+    pub fn last_over_parameters(&self) -> Option<(Expr, u8)> {
+        let named = self.instances.iter();
+        let named = named.flat_map(|each| each.operators.iter().map(|one| (each.name, one)));
+        let operators = self.operators.iter().map(|each| (0, each));
+        let (within, operator) = operators.chain(named).last()?;
+        let arguments = (0..operator.count).map(Expr::Parameter).collect();
+        let expr = match within {
+            0 => Expr::Name(operator.name, arguments),
+            _ => Expr::Brought(within, operator.name, arguments),
+        };
+        Some((expr, operator.count))
+    }
+
     pub fn knows(&self, name: u16) -> bool {
         self.operator(name).is_some() || self.instance(name).is_some()
     }

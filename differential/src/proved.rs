@@ -1,6 +1,6 @@
 //! The proved checker, linked as a static library.
 
-use crate::checker::{Checker, Queries};
+use crate::checker::{Checker, Expansions, Queries};
 
 /// The proved implementation.
 pub struct Proved;
@@ -19,7 +19,6 @@ impl Checker for Proved {
     }
 }
 
-/// Expansions are not among them yet.
 impl Queries for Proved {
     fn level(&self, file: &[u8], cards: &mut [u8], module: u16, expr: &[u8], levels: &[u8]) -> u32 {
         rafterclary::level_packed(file, cards, module, expr, levels)
@@ -31,5 +30,22 @@ impl Queries for Proved {
 
     fn body(&self, file: &[u8], cards: &mut [u8], d: u32) -> u64 {
         rafterclary::body_packed(file, cards, d)
+    }
+    fn expansions(&self) -> Option<&dyn Expansions> {
+        Some(self)
+    }
+}
+
+impl Expansions for Proved {
+    fn expand(
+        &self,
+        file: &[u8],
+        cards: &mut [u8],
+        module: u16,
+        expr: &[u8],
+        params: u8,
+        out: &mut [u8],
+    ) -> u32 {
+        rafterclary::expand_packed(file, cards, module, expr, params, out)
     }
 }

@@ -5,6 +5,7 @@ use crate::cases::{Call, Case, Outcome};
 use crate::checker::{Checker, Offer};
 use crate::coverage::{Coverage, Section};
 use crate::damage;
+use crate::expansions;
 use crate::families;
 use crate::faults::{self, Plan};
 use crate::limits;
@@ -315,7 +316,22 @@ impl Runner<'_> {
             if !self.offered(&family.call) {
                 continue;
             }
-            self.compare(&Case::new(&family.file, family.call.clone()))?;
+            let case = Case::new(&family.file, family.call.clone());
+            let outcome = self.compare(&case)?;
+            self.report.families += 1;
+            let expanded = matches!(case.call, Call::Expand { .. });
+            if expanded && case.refusal(&outcome).is_none() {
+                self.rooms(&case, outcome.reply as usize)?;
+            }
+        }
+        Some(())
+    }
+
+    /// Compares an expansion of so many bytes into outputs of other lengths. `None` at a difference.
+    fn rooms(&mut self, case: &Case, length: usize) -> Option<()> {
+        for room in expansions::rooms(length) {
+            let call = expansions::into_room(&case.call, room);
+            self.compare(&Case::new(&case.file, call))?;
             self.report.families += 1;
         }
         Some(())

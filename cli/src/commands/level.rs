@@ -6,7 +6,7 @@ use crate::archive;
 use crate::causes::LEVELS;
 use crate::finding::find_asked;
 use crate::input::Input;
-use crate::question::{Given, Question};
+use crate::question::{levelled, Given, Question};
 use crate::{Misuse, Status};
 use std::path::Path;
 
@@ -25,7 +25,8 @@ pub fn run(
             return refused(options, &input, refusal, Telling::Reasons);
         }
     };
-    let question = Question::new(&input, module, given, levels, options.colors)?;
+    let parameters = levelled(&input.file.names, levels)?;
+    let question = Question::new(&input, module, given, parameters, options.colors)?;
     let Question { module, bytes, .. } = &question;
     let reply = archive::level(&input.bytes, *module, bytes, &question.levels());
     let told = match reply {

@@ -6,6 +6,7 @@ mod card;
 mod check;
 mod choosing;
 mod convert;
+mod expand;
 mod explain;
 mod level;
 mod list;
@@ -32,7 +33,7 @@ struct Options<'o> {
     colors: Colors,
 }
 
-/// Runs a command. `expand` finds its place here once the archive has it.
+/// Runs a command.
 pub fn run(args: &Args) -> Result<Status, Misuse> {
     let colors = Colors::new(args.color);
     let options = Options {
@@ -55,11 +56,18 @@ pub fn run(args: &Args) -> Result<Status, Misuse> {
             levels,
             hex,
         } => {
-            let given = match hex {
-                true => Given::Bytes(expression),
-                false => Given::Text(expression),
-            };
+            let given = Given::new(expression, *hex);
             level::run(options, file, module, given, levels)
+        }
+        Command::Expand {
+            file,
+            module,
+            expression,
+            params,
+            hex,
+        } => {
+            let given = Given::new(expression, *hex);
+            expand::run(options, file, module, given, params)
         }
         Command::Alike {
             file,

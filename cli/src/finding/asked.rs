@@ -1,4 +1,4 @@
-//! A query's own refusals: 17, and 3, 5, 9 and 10 of its expression and levels.
+//! A query's own refusals: 17, 3, 5, 9 and 10 of its expression and parameters, and 18.
 
 use super::limits::{within, PARAMETERS};
 use super::{find, title, Finding, Focus};
@@ -13,13 +13,14 @@ pub struct Told {
     pub input: Option<Input>,
 }
 
-/// Puts a refusal of a level query into words, the file itself being accepted.
+/// Puts a refusal of a query with an expression into words, the file itself being accepted.
 pub fn find_asked(input: &Input, outline: &Outline, question: &Question, refusal: Refusal) -> Told {
     let number = refusal.number;
     let plain = match number {
         17 => Some(no_module(input, question.module)),
         3 => layout(question),
         5 => parameters(question),
+        18 => Some(too_long()),
         _ => None,
     };
     if let Some(finding) = plain {
@@ -87,9 +88,13 @@ fn layout(question: &Question) -> Option<Finding> {
 
 fn parameters(question: &Question) -> Option<Finding> {
     let count = question.parameters.len();
-    let message =
-        || format!("levels are given for {count} parameters, and the limit is {PARAMETERS}");
+    let message = || format!("{count} parameters are given, and the limit is {PARAMETERS}");
     (count > PARAMETERS).then(|| Finding::new(message()))
+}
+
+/// The output lent is as long as an expansion may be.
+fn too_long() -> Finding {
+    Finding::new("the expansion is over 65,535 bytes, and that is the limit")
 }
 
 fn limit(question: &Question, place: usize) -> Finding {

@@ -19,6 +19,7 @@ impl Run {
     }
 
     /// One JSON value for each line.
+    #[allow(dead_code)]
     pub fn json(&self) -> Vec<Value> {
         let lines = self.text().lines();
         lines

@@ -155,7 +155,7 @@ module _ (file : List ℕ) (fs : List Field) (s : State) (rs : List Row) (v : St
   deep : nesting e ≤ maxNesting
   deep = ltb-false maxNesting (nesting e) (limits .0)
 
-  tree : (t : Expr) × (exprAt maxNesting expr 0 ≡ found t (0 + length expr)) × (asTree t ≡ e)
+  pub tree : (t : Expr) × (exprAt maxNesting expr 0 ≡ found t (0 + length expr)) × (asTree t ≡ e)
   tree = expression-in-file expr 0 (length expr) e (omega arith) in-part maxNesting deep
 
   -- a table beside the bytes, in which each name would be noted
@@ -199,7 +199,7 @@ module _ (file : List ℕ) (fs : List Field) (s : State) (rs : List Row) (v : St
   low-token i (Literal y) h f z = not-true z
   low-token i NoToken h f z = not-true h
 
-  low : AllTokens (Low look (maxDefinitions + length decls)) (tree .0)
+  pub low : AllTokens (Low look (maxDefinitions + length decls)) (tree .0)
   low =
       tokens-found expr (Low look (maxDefinitions + length decls)) maxNesting 0 (tree .0) (0 + length expr) (tree .1)
       (λ i a b h. low-token i (tokenAt expr i) h (good-at expr i bytes h .0))
@@ -207,7 +207,7 @@ module _ (file : List ℕ) (fs : List Field) (s : State) (rs : List Row) (v : St
   span : Span 0 (0 + length expr) (tree .0)
   span = subst (SpanOf 0) (tree .1) (span-found maxNesting expr 0)
 
-  reads : Reads look table′ (tree .0)
+  pub reads : Reads look table′ (tree .0)
   unfolding table′
   reads = noted-reads (tree .0) look table 0 (0 + length expr) span wide
 
@@ -222,7 +222,7 @@ module _ (file : List ℕ) (fs : List Field) (s : State) (rs : List Row) (v : St
       all-tokens (tree .0) (tokens-found expr (λ i x. isToken x ≡ true) maxNesting 0 (tree .0) (0 + length expr) (tree .1) (λ i a b h. h))
 
   module _ (known : asked .unknown ≡ false) (counted-right : asked .miscounted ≡ false) where
-    formed : WellFormed (aritiesOf (templatesOf s)) n 0 (resolve s Γ e)
+    pub formed : WellFormed (aritiesOf (templatesOf s)) n 0 (resolve s Γ e)
     formed =
         clear-in s Γ n e (stands .good .sound) (known-context s q (omega (arith, stands .holds .modules)) (stands .good)) (expression-back expr e spelt .0)
         (sym (asked-right .cause-9) ∙ known) (sym (asked-right .cause-10) ∙ counted-right)

@@ -51,13 +51,13 @@ not-there (M ∷ ms) zero k = absurd (omega arith)
 not-there (M ∷ ms) (suc i) k = not-there ms i (omega arith)
 
 module _ (v : Store) (c : Counts) (s : State) (holds : Holds v c s) (m q : ℕ) (place : q ≡ placeOf m (part (v .heads) 0 (c .modules))) where
-  found-module : q < c .modules → moduleNamed s m ≡ some (moduleNo s q)
+  pub found-module : q < c .modules → moduleNamed s m ≡ some (moduleNo s q)
   found-module h =
       let l : q < length (s .ended) = omega (arith, holds .modules) in
       module-law v c s holds m ∙ ap (getElem? (s .ended)) (sym place) ∙ there (s .ended) q l
       ∙ ap some (sym (List·getD-append (s .ended) (s .current ∷ []) noModule q l))
 
-  no-module : c .modules ≤ q → moduleNamed s m ≡ none
+  pub no-module : c .modules ≤ q → moduleNamed s m ≡ none
   no-module h = module-law v c s holds m ∙ ap (getElem? (s .ended)) (sym place) ∙ not-there (s .ended) q (omega (arith, holds .modules))
 
 -- the causes of a query, in their order
@@ -105,7 +105,7 @@ none-at-all false false false false true p t f z h = absurd (omega arith)
 none-at-all false false false false false p t f z h = refl
 
 -- what is not an expression is read as none
-none-spelt : (o : Option Expression) → isSome o ≡ false → o ≡ none
+pub none-spelt : (o : Option Expression) → isSome o ≡ false → o ≡ none
 none-spelt none h = refl
 none-spelt (some e) h = never h
 

@@ -67,7 +67,7 @@ fn site_by(outer: usize, kind: u16, source: u16, link: u16) -> Site
     }
 }
 
-fn site_of(facts: &[u16], outer: usize, o: usize) -> Site
+pub fn site_of(facts: &[u16], outer: usize, o: usize) -> Site
     requires { ⌜ (outer ≤ maxArity) × (o ≤ 2 * wordCount) × (linkFits (now facts) outer o ≡ true) ⌝ }
     ensures { λ r. ⌜ SiteMade (now (facts .entry)) outer o r ⌝ }
 {
@@ -149,7 +149,7 @@ fn link_numbers(
 }
 
 // The same in place.
-fn enter_link_numbers(
+pub fn enter_link_numbers(
     facts: &[u16],
     orders: &[u16],
     heads: &[u16],

@@ -18,7 +18,7 @@ ghost use Rattle.chains.specs.Walk.{LinkEntered, codeAt, outerAfter, ste
 ghost use Rattle.chains.specs.Results.{Itselves, WorldForm};
 
 // The code of the INSTANCE field that brought a definition.
-fn code_of(facts: &[u16], cur: usize) -> usize
+pub fn code_of(facts: &[u16], cur: usize) -> usize
     requires { ⌜ (cur < maxDefinitions) × (0 < linkAt (now facts) cur) ⌝ }
     ensures { λ r. ⌜ (r ≡ codeAt (now (facts .entry)) cur) × (r ≤ 2 * wordCount) ⌝ }
 {
@@ -26,7 +26,7 @@ fn code_of(facts: &[u16], cur: usize) -> usize
 }
 
 // The definition that it was brought from.
-fn source_of(facts: &[u16], cur: usize) -> usize
+pub fn source_of(facts: &[u16], cur: usize) -> usize
     requires { ⌜ cur < maxDefinitions ⌝ }
     ensures { λ r. ⌜ r ≡ sourceAt (now (facts .entry)) cur ⌝ }
 {
@@ -34,7 +34,7 @@ fn source_of(facts: &[u16], cur: usize) -> usize
 }
 
 // Where its text begins.
-fn text_of(facts: &[u16], cur: usize) -> usize
+pub fn text_of(facts: &[u16], cur: usize) -> usize
     requires { ⌜ cur < maxDefinitions ⌝ }
     ensures { λ r. ⌜ r ≡ firstAt (now (facts .entry)) cur ⌝ }
 {
@@ -42,7 +42,7 @@ fn text_of(facts: &[u16], cur: usize) -> usize
 }
 
 // Whether it was brought, from one below it and by a field within the limits.
-fn step_fits(facts: &[u16], outer: usize, cur: usize) -> bool
+pub fn step_fits(facts: &[u16], outer: usize, cur: usize) -> bool
     requires { ⌜ (outer ≤ maxArity) × (cur < maxDefinitions) ⌝ }
     ensures { λ r. ⌜ r ≡ stepFits (now (facts .entry)) outer cur ⌝ }
 {
@@ -56,7 +56,7 @@ fn step_fits(facts: &[u16], outer: usize, cur: usize) -> bool
 }
 
 // The parameters around what that instance brought.
-fn outer_after(facts: &[u16], outer: usize, cur: usize) -> usize
+pub fn outer_after(facts: &[u16], outer: usize, cur: usize) -> usize
     requires { ⌜ (outer ≤ maxArity) × (cur < maxDefinitions) × (stepFits (now facts) outer cur ≡ true) ⌝ }
     ensures { λ r. ⌜ r ≡ outerAfter (now (facts .entry)) outer cur ⌝ }
 {

@@ -9,6 +9,7 @@ use Rattle.rules.specs.State.{start}
 use Rattle.laws.proofs.Invariant.{good-start}
 use Rattle.laws.proofs.Origins.{no-fields}
 use Rattle.laws.proofs.Within.{within-start}
+use Rattle.worlds.proofs.Depth.{depths-start}
 use Rattle.worlds.proofs.Fields.{worlds-start}
 use Rattle.context.proofs.Adds.{empty, hold-start}
 use Rattle.context.specs.Store.{noCounts}
@@ -40,4 +41,5 @@ standing-start file refs words declared a b d =
       worlds = worlds-start;
       paths = record { short = tt; current = tt; ended = tt };
       covered = record { all = λ D l. absurd (omega arith); current = tt; ended = tt };
+      depths = depths-start;
     }

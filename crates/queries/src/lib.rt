@@ -1,4 +1,5 @@
 // The queries of paper 01 as operations: "Each call checks the file afresh and fills the lent card memory."
+pub mod expansion;
 pub mod replies;
 
 ghost use mathlib.Core.Bool.{false, true};

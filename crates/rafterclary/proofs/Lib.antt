@@ -1,2 +1,4 @@
 pub mod Places
 pub mod Packing
+pub mod PackingExpansion
+pub mod Demand3

@@ -27,7 +27,7 @@ use Rattle.rafterclary.specs.Packed.{FewDefinitions, InFile, Packable, p
 use Rattle.rafterclary.proofs.Places.{alike-place, body-place, level-place, part-inside}
 
 -- what is known of an outcome's result and of its place
-packable : {A : Type 0} (P : A → Type 0) (o : Outcome A) → ((a : A) → o ≡ result a → P a) → ((c p : ℕ) → o ≡ refusal c p → p ≤ fileBytes) → Packable P o
+pub packable : {A : Type 0} (P : A → Type 0) (o : Outcome A) → ((a : A) → o ≡ result a → P a) → ((c p : ℕ) → o ≡ refusal c p → p ≤ fileBytes) → Packable P o
 packable P (result a) f g = f a refl
 packable P (refusal c p) f g = g c p refl
 

@@ -1,5 +1,6 @@
 -- The places of refusals, and the parts of the file that bodies are, lie in the file.
 use mathlib.Core.List.{List, [], _++_, _∷_}
+use mathlib.Core.Logic.{inl, inr}
 use mathlib.Core.Path.{_∙_, _≡_, ap}
 use Prim.Native.Nat.{ℕ, zero, suc, _+_, _≤_}
 use native.Mathlib.Omega.{arith}
@@ -8,7 +9,7 @@ use Rattle.limits.specs.Limits.{fileBytes}
 use Rattle.rules.specs.Bytes.{writeAll}
 use Rattle.rules.specs.Expression.{expression}
 use Rattle.rules.specs.Field.{Field, definition, field, writeField}
-use Rattle.rules.specs.Query.{alikeQuery, bodyQuery, levelQuery}
+use Rattle.rules.specs.Query.{alikeQuery, bodyQuery, expansionQuery, levelQuery}
 use Rattle.rules.specs.Run.{checked, refusal, result}
 use Rattle.rules.specs.State.{Added, State, definitionAt, start}
 use Rattle.laws.proofs.Accept.{adds}
@@ -16,7 +17,7 @@ use Rattle.laws.proofs.Body.{Body, From, adds-bytes}
 use Rattle.laws.proofs.Checks.{lawful-when-accepted}
 use Rattle.laws.proofs.Fields.{field-some}
 use Rattle.laws.proofs.FileRefusals.{file-place}
-use Rattle.laws.proofs.QueryRefusals.{AlikeRefused, BodyRefused, LevelRefused, QueryRefused, TermRefused, alike-refused, at-fault, body-refused, by-file, by-query, level-refused, no-module}
+use Rattle.laws.proofs.QueryRefusals.{AlikeRefused, BodyRefused, ExpansionRefused, LevelRefused, QueryRefused, TermRefused, alike-refused, at-fault, body-refused, by-file, by-query, expansion-refused, level-refused, no-module}
 use Rattle.laws.proofs.QueryReplies.{body-exact}
 use Rattle.laws.proofs.Reach.{Spells}
 
@@ -45,6 +46,15 @@ pub level-place : (file memory : List ℕ) (m : ℕ) (levels bytes : List ℕ) (
 level-place file memory m levels bytes c p e =
     query-place file memory (LevelRefused m levels bytes) (λ s k c p r. term-place s k m (length levels) levels bytes c p r) c p
     (level-refused file memory m levels bytes c p .0 e)
+
+expansion-own : (s : State) (k m n : ℕ) (bytes : List ℕ) (room c p : ℕ) → ExpansionRefused m n bytes room s k c p → p ≤ k
+expansion-own s k m n bytes room c p (inl r) = term-place s k m n [] bytes c p r
+expansion-own s k m n bytes room c p (inr r) = omega (arith, r .place)
+
+pub expansion-place : (file memory : List ℕ) (m n : ℕ) (bytes output : List ℕ) (c p : ℕ) → expansionQuery file memory m n bytes output .reply ≡ refusal c p → p ≤ fileBytes
+expansion-place file memory m n bytes output c p e =
+    query-place file memory (ExpansionRefused m n bytes (length output)) (λ s k c p r. expansion-own s k m n bytes (length output) c p r) c p
+    (expansion-refused file memory m n bytes output c p .0 e)
 
 pub alike-place : (file memory : List ℕ) (g h c p : ℕ) → alikeQuery file memory g h .reply ≡ refusal c p → p ≤ fileBytes
 alike-place file memory g h c p e =

@@ -1,7 +1,7 @@
 -- A reply as one number, as the C interface hands it over.
 use mathlib.Core.Bool.{Bool, cond}
 use Prim.Native.Nat.{ℕ, _+_, _*_, _^_, _≤_}
-use Rattle.limits.specs.Limits.{fileBytes, maxDefinitions}
+use Rattle.limits.specs.Limits.{expansionBytes, fileBytes, maxDefinitions}
 use Rattle.rules.specs.Run.{Outcome, refusal, result}
 
 -- a refusal has the highest of 32 bits set, its number above its place of 16 bits
@@ -33,3 +33,6 @@ FewDefinitions n = n ≤ maxDefinitions
 
 abbrev pub InFile : ℕ × ℕ → Type 0
 InFile part = part .0 + part .1 ≤ fileBytes
+
+abbrev pub FewBytes : ℕ → Type 0
+FewBytes n = n ≤ expansionBytes

@@ -2,20 +2,23 @@
 ghost use mathlib.Core.Bool.{cond};
 ghost use mathlib.Core.Path.{_≡_};
 ghost use Prim.Native.Nat.{_+_, _*_, _≤_};
-ghost use Rattle.limits.specs.Limits.{fileBytes, maxDefinitions};
-ghost use Rattle.rules.specs.Query.{alikeQuery, bodyQuery, levelQuery};
+ghost use Rattle.limits.specs.Limits.{expansionBytes, fileBytes, maxDefinitions};
+ghost use Rattle.rules.specs.Query.{alikeQuery, bodyQuery, expansionQuery, levelQuery};
 ghost use Rattle.rules.specs.Run.{check};
 ghost use Rattle.asking.specs.Asks as levels;
 ghost use Rattle.checker.specs.Reply.{outcomeOf};
+ghost use Rattle.expanding.specs.Reports as expansions;
 ghost use Rattle.queries.specs.Question.{alikeOutcome, bodyOutcome};
-ghost use Rattle.rafterclary.specs.Packed.{FewDefinitions, InFile, Packable, packed, packedSpan, packedTruth};
+ghost use Rattle.rafterclary.specs.Packed.{FewBytes, FewDefinitions, InFile, Packable, packed, packedSpan, packedTruth};
 use asking::Asked;
 use checker::Reply;
 use checker::check;
+use expanding::Expanded;
 use queries::AlikeReply;
 use queries::BodyReply;
 use queries::alike;
 use queries::body;
+use queries::expansion::expand;
 use queries::level;
 
 fn pack_result(n: usize) -> u32
@@ -93,6 +96,23 @@ fn pack_body(reply: BodyReply) -> u64
     }
 }
 
+fn pack_length(n: usize) -> u32
+    requires { ⌜ n ≤ expansionBytes ⌝ }
+    ensures { λ r. ⌜ r ≡ n ⌝ }
+{
+    n as u32
+}
+
+fn pack_expansion(reply: Expanded) -> u32
+    requires { ⌜ Packable FewBytes (expansions.outcomeOf reply) ⌝ }
+    ensures { λ r. ⌜ r ≡ packed (expansions.outcomeOf reply) ⌝ }
+{
+    match reply {
+        Expanded::Length(n) => pack_length(n),
+        Expanded::Refused(c, p) => pack_refusal(c, p),
+    }
+}
+
 // Checks a file, and fills the lent card memory.
 #[no_mangle]
 pub extern "C" fn rafterclary_check(file: &[u8], cards: &mut [u8]) -> u32
@@ -133,4 +153,20 @@ pub extern "C" fn rafterclary_body(file: &[u8], cards: &mut [u8], d: u32) -> u64
 {
     let reply = body(file, cards, d);
     pack_body(reply)
+}
+
+// The expansion of an expression over so many parameters at the end of the module of that name, written into the output lent: its length.
+#[no_mangle]
+pub extern "C" fn rafterclary_expand(
+    file: &[u8],
+    cards: &mut [u8],
+    module: u16,
+    expr: &[u8],
+    params: u8,
+    out: &mut [u8],
+) -> u32
+    ensures { λ r. ⌜ (r ≡ packed (expansionQuery (now (file .entry)) (now (cards .entry)) «module» params (now (expr .entry)) (now (out .entry)) .reply)) × (now (cards .exit) ≡ expansionQuery (now (file .entry)) (now (cards .entry)) «module» params (now (expr .entry)) (now (out .entry)) .memory) × (now (out .exit) ≡ expansionQuery (now (file .entry)) (now (cards .entry)) «module» params (now (expr .entry)) (now (out .entry)) .output) ⌝ }
+{
+    let reply = expand(file, cards, module, expr, params, out);
+    pack_expansion(reply)
 }

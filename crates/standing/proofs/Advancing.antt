@@ -5,7 +5,7 @@ use mathlib.Core.Path.{_∙_, _≡_, ap, refl, subst, sym}
 use Prim.Native.Nat.{ℕ, _+_, _*_, _≤_, _<_}
 use native.Mathlib.Omega.{arith}
 use lib.ListN.{getD, length, length-append}
-use Rattle.limits.specs.Limits.{fieldHeadBytes, fileBytes, maxDeclarations, maxDefinitions, maxFields}
+use Rattle.limits.specs.Limits.{fileBytes, maxDeclarations, maxDefinitions, maxFields, shortestFieldBytes, shortestPayloadBytes}
 use Rattle.theory.specs.Lists.{_∷?_}
 use Rattle.theory.specs.Term.{Kind, constant, variable}
 use Rattle.theory.proofs.Lists.{none-some}
@@ -13,7 +13,7 @@ use Rattle.rules.specs.Add.{add}
 use Rattle.rules.specs.Field.{Field, assume, begin-module, declare-constant, declare-variable, definition, end-module, extends, instance, theorem, writeField}
 use Rattle.rules.specs.Judge.{judge}
 use Rattle.rules.specs.State.{Added, State}
-use Rattle.laws.proofs.Fields.{field-some}
+use Rattle.laws.proofs.Fields.{field-more, field-some}
 use Rattle.laws.proofs.Invariant.{good-add}
 use Rattle.laws.proofs.Origins.{declaration, origins-add}
 use Rattle.laws.proofs.Paths.{paths-add}
@@ -29,6 +29,7 @@ use Rattle.context.specs.declared.Counts.{Counts}
 use Rattle.context.proofs.Room.{context-space-for, order-space-for}
 use Rattle.worlds.specs.Rows.{Row, newRows, rowsAfter}
 use Rattle.worlds.proofs.Declared.{covered-add}
+use Rattle.worlds.proofs.Depth.{depths-add}
 use Rattle.worlds.proofs.Fields.{worlds-add}
 use Rattle.judge_plain.proofs.Premises.{fresh-add}
 use Rattle.judge_plain.specs.Judges.{phaseOf}
@@ -92,7 +93,7 @@ module _ (file : List ℕ) (fs : List Field) (s : State) (rs : List Row) (v : St
 
   module _ (x : Parts) (f : Field) (at : AtField file s x f) where
     pub room : c .fields < maxFields
-    room = omega (arith, fields-counted, stands .apart, at .ends, at .inside, at .short, field-some f)
+    room = omega (arith, fields-counted, stands .apart, stands .within .modules, at .ends, at .inside, at .short, field-some f)
 
     -- what the code asks of the arrays
     pub roomy : Roomy (v .names) (v .facts) (v .contexts) (v .orders) (v .heads) c
@@ -113,8 +114,8 @@ module _ (file : List ℕ) (fs : List Field) (s : State) (rs : List Row) (v : St
     pub bytes-inside : add s f .bytes ≤ length file
     bytes-inside = omega (arith, bytes-more s f, at .ends, at .inside)
 
-    pub bytes-apart : fieldHeadBytes * length (fs ++ (f ∷ [])) ≤ add s f .bytes
-    bytes-apart = omega (arith, bytes-more s f, length-append fs (f ∷ []), stands .apart, field-some f)
+    pub bytes-apart : shortestFieldBytes * length (fs ++ (f ∷ [])) ≤ add s f .bytes + shortestPayloadBytes * length (add s f .ended)
+    bytes-apart = omega (arith, bytes-more s f, length-append fs (f ∷ []), stands .apart, field-more s f)
 
     -- All stands after the field: what follows from the rules alone is put to what the judge leaves.
     module _ (lawful : judge s f ≡ none) (v′ : Store) (c′ : Counts) (p′ : Phase) (refs′ : List ℕ) (holds′ : Holds v′ c′ (add s f))
@@ -143,6 +144,7 @@ module _ (file : List ℕ) (fs : List Field) (s : State) (rs : List Row) (v : St
         paths = paths-add fs s f (stands .origins) lawful (stands .paths);
         worlds = worlds-add s rs f (stands .worlds);
         covered = covered-add fs s rs f (stands .origins) lawful (stands .worlds) (stands .covered);
+        depths = depths-add s rs (stands .worlds) (stands .depths) f;
       }
 
       module _ (rows : RowsKept v c v′) where

@@ -3,7 +3,7 @@ use mathlib.Core.List.{List, [], _∷_, _++_}
 use mathlib.Core.Path.{_≡_}
 use Prim.Native.Nat.{ℕ, _+_, _*_, _≤_, _<_}
 use lib.ListN.{getD, length}
-use Rattle.limits.specs.Limits.{codeCount, contextLength, contextsLength, factsLength, fieldHeadBytes, fileBytes, headsLength, maxArity, maxDeclarations, maxDefinitions, maxFields, maxModules, ordersLength}
+use Rattle.limits.specs.Limits.{codeCount, contextLength, contextsLength, factsLength, fileBytes, headsLength, maxArity, maxDeclarations, maxDefinitions, maxFields, maxModules, ordersLength, shortestFieldBytes, shortestPayloadBytes}
 use Rattle.theory.specs.Lists.{numbersFrom}
 use Rattle.theory.specs.Term.{kindArity}
 use Rattle.rules.specs.Add.{add}
@@ -20,6 +20,7 @@ use Rattle.laws.proofs.Paths.{Paths}
 use Rattle.laws.proofs.Within.{Within}
 use Rattle.worlds.specs.Rows.{Row, rowsAfter}
 use Rattle.worlds.proofs.Declared.{AllCovered}
+use Rattle.worlds.proofs.Depth.{Depths}
 use Rattle.worlds.proofs.Invariant.{Worlds}
 use Rattle.texts.specs.Text.{Declarations, noDeclaration}
 use Rattle.context.specs.Holds.{Holds}
@@ -60,7 +61,7 @@ pub record Standing (file : List ℕ) (fs : List Field) (s : State) (rs : List R
   pub refs-size : length refs ≡ fileBytes
   pub words-size : length words ≡ tableWords
   pub inside : s .bytes ≤ length file
-  pub apart : fieldHeadBytes * length fs ≤ s .bytes
+  pub apart : shortestFieldBytes * length fs ≤ s .bytes + shortestPayloadBytes * length (s .ended)
   pub origins : Origins fs s
   pub good : Good s
   pub within : Within s
@@ -68,6 +69,7 @@ pub record Standing (file : List ℕ) (fs : List Field) (s : State) (rs : List R
   pub paths : Paths s
   pub worlds : Worlds s rs
   pub covered : AllCovered s rs
+  pub depths : Depths s rs
 
 -- A field judged: the answer is the rules' first cause, and if there is none, all stands with the field read.
 pub record Advances (file : List ℕ) (fs : List Field) (s : State) (rs : List Row) (f : Field) (r : Judged) (v′ : Store) (refs′ words′ declared′ : List ℕ) : Type 0 where

@@ -1,0 +1,3 @@
+pub mod Rowing
+pub mod Going
+pub mod Telling

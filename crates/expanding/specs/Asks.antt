@@ -1,0 +1,55 @@
+-- What the expansion query answers, by the arrays of a checked file.
+use mathlib.Core.Bool.{cond}
+use mathlib.Core.List.{List, []}
+use mathlib.Core.Path.{_≡_}
+use Prim.Native.Nat.{ℕ, _+_, _≤_, _<_}
+use lib.Dec.{ltb}
+use lib.ListN.{length}
+use Rattle.limits.specs.Limits.{maxArity, maxDefinitions, maxNesting}
+use Rattle.theory.specs.Expand.{aritiesOf}
+use Rattle.theory.specs.Term.{WellFormed}
+use Rattle.rules.specs.Expression.{expression}
+use Rattle.rules.specs.Field.{Field}
+use Rattle.rules.specs.Query.{expansionBytesOf, expansionReply, readIn, unlessLonger}
+use Rattle.rules.specs.Run.{andThen}
+use Rattle.rules.specs.State.{State, templatesOf}
+use Rattle.tokens.specs.Expr.{Expr, exprAt, found, wholeOf}
+use Rattle.tokens.specs.Limit.{limitAt}
+use Rattle.context.specs.Holds.{moduleNo}
+use Rattle.context.specs.Store.{contextCodes, store}
+use Rattle.context.specs.declared.Counts.{Counts}
+use Rattle.judge_plain.specs.declared.Phase.{Phase}
+use Rattle.resolve.proofs.Numbers.{declarationsOf}
+use Rattle.standing.specs.Standing.{Standing, itselves}
+use Rattle.unfolding.specs.InWorld.{termIn}
+use Rattle.spelling.specs.Strings.{LooksBelow, byContext}
+use Rattle.spelling.specs.Written.{placeOf}
+use Rattle.worlds.specs.Rows.{Row}
+use Rattle.asking.specs.Asks.{isPassed}
+use Rattle.expanding.specs.Reports.{Reports}
+use Rattle.expanding.specs.declared.Expanded.{Expanded}
+
+-- causes 3 and 5 of the bytes and the number of parameters; 0 if none holds
+unfoldable pub bytesCause : ℕ → List ℕ → ℕ
+bytesCause n expr = cond (wholeOf expr) (cond (ltb maxArity n) 5 (cond (isPassed (limitAt expr 0)) 5 0)) 3
+
+-- The reply to an expression without causes, in module m.
+pub record RepliesTo (file refs names facts contexts orders heads declared : List ℕ) (c : Counts) (m : ℕ) (expr : List ℕ) (r : Expanded) (before after : List ℕ) : Type 0 where
+  pub reply : (fs : List Field) (s : State) (rs : List Row) (p : Phase) (words : List ℕ)
+      → Standing file fs s rs (store names facts contexts orders heads) c p refs words declared → (t : Expr) (e : ℕ) → exprAt maxNesting expr 0 ≡ found t e
+      → LooksBelow (maxDefinitions + length (declarationsOf fs)) (byContext names facts (contextCodes contexts heads m)) t → (n : ℕ) → n ≤ maxArity
+      → WellFormed (aritiesOf (templatesOf s)) n 0 (termIn (byContext names facts (contextCodes contexts heads m)) (declarationsOf fs) (placeOf 0 0 itselves) t)
+      → Reports (unlessLonger (expansionBytesOf s (termIn (byContext names facts (contextCodes contexts heads m)) (declarationsOf fs) (placeOf 0 0 itselves) t)) (length before))
+      r before after
+
+-- The reply in module m is the rules', if the arrays show a state in which it is ended.
+pub record RepliesIn (file refs names facts contexts orders heads declared : List ℕ) (c : Counts) (m n : ℕ) (expr : List ℕ) (r : Expanded) (before after : List ℕ) : Type 0 where
+  pub reply : (fs : List Field) (s : State) (rs : List Row) (p : Phase) (words : List ℕ)
+      → Standing file fs s rs (store names facts contexts orders heads) c p refs words declared → m < c .modules
+      → Reports (andThen (readIn s (moduleNo s m) [] n (expression .read expr)) (λ t. unlessLonger (expansionBytesOf s t) (length before))) r before after
+
+-- The reply is the rules', if the arrays and counts show a state that some fields lead to.
+pub record RepliesOf (file refs names facts contexts orders heads declared : List ℕ) (c : Counts) (m n : ℕ) (expr : List ℕ) (r : Expanded) (before after : List ℕ) : Type 0 where
+  pub reply : (fs : List Field) (s : State) (rs : List Row) (p : Phase) (words : List ℕ)
+      → Standing file fs s rs (store names facts contexts orders heads) c p refs words declared
+      → Reports (expansionReply m n expr (length before) s) r before after

@@ -1,0 +1,197 @@
+// "Expansion [of] an expression over 0 to 3 parameters at the end of a module": the file checked afresh, the lent card memory filled, and the
+// output written.
+ghost use mathlib.Core.Bool.{false, true};
+ghost use mathlib.Core.Path.{_≡_};
+ghost use Prim.Native.Nat.{_≤_};
+ghost use lib.ListN.{length};
+ghost use Rattle.limits.specs.Limits.{cardMemoryBytes, codeCount, fileBytes, maxDeclarations, maxDefinitions};
+ghost use Rattle.context.proofs.Adds.{empty};
+ghost use Rattle.context.specs.Store.{store};
+ghost use Rattle.levels.specs.Tables.{tableWords};
+ghost use Rattle.rules.specs.Bytes.{isEmpty};
+ghost use Rattle.tokens.proofs.Writing.{Bytes};
+ghost use Rattle.checker.specs.Settles.{wrongSize};
+ghost use Rattle.queries.specs.Expanding.{AfterExpanding, Expanding};
+ghost use Rattle.queries.specs.Replies.{Bounded};
+use cards::clear_cards;
+use checker::Reply;
+use checker::judge_in;
+use checker::wrong_size;
+use context::Counts;
+use expanding::Expanded;
+use expanding::query::expand_reply;
+use limits::Limits;
+
+// After the file was judged: its refusal, or the reply in the arrays, which then show the state that the file leads to.
+fn expand_after(
+    reply: Reply,
+    expr: &[u8],
+    params: u8,
+    module: u16,
+    file: &[u8],
+    refs: &[u16],
+    names: &[u16],
+    facts: &[u16],
+    contexts: &[u16],
+    orders: &[u16],
+    heads: &[u16],
+    declared: &[u16],
+    c: Counts,
+    out: &mut [u8],
+) -> Expanded
+    requires { ⌜ Bounded reply c × (length (now file) ≤ fileBytes) ⌝ }
+    ensures { λ r. ⌜ AfterExpanding reply (now (file .entry)) (now (refs .entry)) (now (names .entry)) (now (facts .entry)) (now (contexts .entry)) (now (orders .entry)) (now (heads .entry)) (now (declared .entry)) c «module» params (now (expr .entry)) r (now (out .entry)) (now (out .exit)) ⌝ }
+{
+    match reply {
+        Reply::Accepted(_) => expand_reply(
+            expr,
+            params,
+            module,
+            file,
+            refs,
+            names,
+            facts,
+            contexts,
+            orders,
+            heads,
+            declared,
+            c,
+            out,
+        ),
+        Reply::Refused(k, p) => Expanded::Refused(k, p),
+    }
+}
+
+// A file of lawful size, judged in arrays that are empty, and the expression expanded from them.
+fn expand_in(
+    expr: &[u8],
+    params: u8,
+    module: u16,
+    file: &[u8],
+    cards: &mut [u8],
+    names: &mut [u16],
+    facts: &mut [u16],
+    contexts: &mut [u16],
+    orders: &mut [u16],
+    heads: &mut [u16],
+    refs: &mut [u16],
+    words: &mut [u64],
+    declared: &mut [u16],
+    marks: &mut [u16],
+    tally: &mut [u16],
+    out: &mut [u8],
+) -> Expanded
+    requires { ⌜ (cardMemoryBytes ≤ length (now cards)) × (isEmpty (now file) ≡ false) × (length (now file) ≤ fileBytes) × Bytes (now file) × (store (now names) (now facts) (now contexts) (now orders) (now heads) ≡ empty) × (length (now refs) ≡ fileBytes) × (length (now words) ≡ tableWords) × (length (now declared) ≡ maxDeclarations) × (length (now marks) ≡ codeCount) × (length (now tally) ≡ maxDefinitions) ⌝ }
+    ensures { λ r. ⌜ Expanding (now (file .entry)) (now (cards .entry)) «module» params (now (expr .entry)) (now (out .entry)) r (now (cards .exit)) (now (out .exit)) ⌝ }
+{
+    let verdict = judge_in(
+        file,
+        cards,
+        names,
+        facts,
+        contexts,
+        orders,
+        heads,
+        refs,
+        words,
+        declared,
+        marks,
+        tally,
+    );
+    let reply = verdict.reply;
+    let counts = verdict.counts;
+    expand_after(
+        reply,
+        expr,
+        params,
+        module,
+        file,
+        refs,
+        names,
+        facts,
+        contexts,
+        orders,
+        heads,
+        declared,
+        counts,
+        out,
+    )
+}
+
+// A file of lawful size.
+fn expand_fields(
+    expr: &[u8],
+    params: u8,
+    module: u16,
+    file: &[u8],
+    cards: &mut [u8],
+    out: &mut [u8],
+) -> Expanded
+    requires { ⌜ (cardMemoryBytes ≤ length (now cards)) × (isEmpty (now file) ≡ false) × (length (now file) ≤ fileBytes) × Bytes (now file) ⌝ }
+    ensures { λ r. ⌜ Expanding (now (file .entry)) (now (cards .entry)) «module» params (now (expr .entry)) (now (out .entry)) r (now (cards .exit)) (now (out .exit)) ⌝ }
+{
+    let mut names = Limits::no_names();
+    let mut facts = Limits::no_facts();
+    let mut contexts = Limits::no_contexts();
+    let mut orders = Limits::no_orders();
+    let mut heads = Limits::no_heads();
+    let mut refs = [0u16; Limits::FILE_BYTES];
+    let mut words = [0u64; 4 * (Limits::DEFINITIONS + Limits::DECLARATIONS)];
+    let mut declared = [0u16; Limits::DECLARATIONS];
+    let mut marks = [0u16; Limits::CODES];
+    let mut tally = [0u16; Limits::DEFINITIONS];
+    expand_in(
+        expr,
+        params,
+        module,
+        file,
+        cards,
+        &mut names,
+        &mut facts,
+        &mut contexts,
+        &mut orders,
+        &mut heads,
+        &mut refs,
+        &mut words,
+        &mut declared,
+        &mut marks,
+        &mut tally,
+        out,
+    )
+}
+
+// Refusal 2: the cards are zeroed, and no output is written.
+fn refuse_size(
+    expr: &[u8],
+    params: u8,
+    module: u16,
+    file: &[u8],
+    cards: &mut [u8],
+    out: &mut [u8],
+) -> Expanded
+    requires { ⌜ (cardMemoryBytes ≤ length (now cards)) × (wrongSize (now file) ≡ true) ⌝ }
+    ensures { λ r. ⌜ Expanding (now (file .entry)) (now (cards .entry)) «module» params (now (expr .entry)) (now (out .entry)) r (now (cards .exit)) (now (out .exit)) ⌝ }
+{
+    clear_cards(cards);
+    Expanded::Refused(2, 0)
+}
+
+// The expansion of an expression over so many parameters at the end of the module of that name, written into the output lent: its length.
+pub fn expand(
+    file: &[u8],
+    cards: &mut [u8],
+    module: u16,
+    expr: &[u8],
+    params: u8,
+    out: &mut [u8],
+) -> Expanded
+    ensures { λ r. ⌜ Expanding (now (file .entry)) (now (cards .entry)) «module» params (now (expr .entry)) (now (out .entry)) r (now (cards .exit)) (now (out .exit)) ⌝ }
+{
+    if cards.len() < Limits::CARD_MEMORY_BYTES {
+        return Expanded::Refused(1, 0);
+    }
+    if wrong_size(file) {
+        return refuse_size(expr, params, module, file, cards, out);
+    }
+    expand_fields(expr, params, module, file, cards, out)
+}

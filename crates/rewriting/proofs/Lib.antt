@@ -1,0 +1,6 @@
+pub mod Bits
+pub mod Seen
+pub mod Step
+pub mod Found
+pub mod Standing
+pub mod Cases

@@ -1,0 +1,4 @@
+pub mod Rewritten
+pub mod Ends
+pub mod Going
+pub mod Filling

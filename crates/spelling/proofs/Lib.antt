@@ -1,0 +1,9 @@
+pub mod Putting
+pub mod Parting
+pub mod Heading
+pub mod Walking
+pub mod Alike
+pub mod Small
+pub mod Showing
+pub mod Narrowing
+pub mod Short

@@ -1,0 +1,4 @@
+pub mod Put
+pub mod Parts
+pub mod Written
+pub mod Strings

@@ -1,0 +1,156 @@
+// From a text of the file to its string of symbols: what each name was resolved to, and how the text is brought, are given by tables.
+pub mod ask;
+pub mod heads;
+pub mod put;
+pub mod walk;
+
+ghost use Prim.Native.Nat.{_<_, _≤_};
+ghost use lib.ListN.{length};
+ghost use Rattle.limits.specs.Limits.{maxArity, maxModules};
+ghost use Rattle.context.specs.Store.{contextCodes};
+ghost use Rattle.spelling.specs.Strings.{ImpliedString, QueryString, TextString};
+use crate::ask::ask_expr;
+use crate::heads::leads;
+use crate::heads::named;
+use crate::walk::write_expr;
+use levels::names::identity;
+use limits::Limits;
+
+// How a text is brought: how many instances have been entered, and how many parameters they have.
+pub struct Site {
+    pub level: usize,
+    pub outer: usize,
+}
+
+// What is left to be written of a token's arguments: from which position on; all, or those whose bits are set; and whether the last is
+// bracketed.
+pub struct Rest {
+    pub to: usize,
+    pub all: bool,
+    pub mask: u64,
+    pub binds: bool,
+}
+
+// Where an expression ends, and where its string does.
+pub struct Ends {
+    pub next: usize,
+    pub to: usize,
+}
+
+// Whether there was room for a string, and its length.
+pub struct Spelled {
+    pub fits: bool,
+    pub len: usize,
+}
+
+// The string of the text at a position, which was brought through `level` instances that have `outer` parameters.
+pub fn text_string(
+    s: &[u8],
+    refs: &[u16],
+    names: &[u16],
+    declared: &[u16],
+    numbers: &[u16],
+    shapes: &[u8],
+    at: usize,
+    level: usize,
+    outer: usize,
+    out: &mut [u8],
+) -> Spelled
+    requires { ⌜ (level < 16) × (outer ≤ maxArity) ⌝ }
+    ensures { λ r. ⌜ TextString (now (s .entry)) (now (refs .entry)) (now (names .entry)) (now (declared .entry)) (now (numbers .entry)) (now (shapes .entry)) at level outer (now (out .exit)) (length (now (out .entry))) (r .fits) (r .len) ⌝ }
+{
+    let site = Site { level, outer };
+    let a = write_expr(
+        s,
+        refs,
+        names,
+        declared,
+        numbers,
+        shapes,
+        out,
+        at,
+        Limits::NESTING,
+        site,
+        0,
+    );
+    let len = a.to;
+    Spelled {
+        fits: len <= out.len(),
+        len,
+    }
+}
+
+// The string of what a name was resolved to, r, at k parameters after the instances' and p more.
+pub fn implied_string(
+    names: &[u16],
+    declared: &[u16],
+    numbers: &[u16],
+    shapes: &[u8],
+    r: u16,
+    level: usize,
+    outer: usize,
+    p: usize,
+    k: usize,
+    out: &mut [u8],
+) -> Spelled
+    requires { ⌜ (level < 16) × (outer ≤ maxArity) × (p ≤ maxArity) × (k ≤ maxArity) ⌝ }
+    ensures { λ x. ⌜ ImpliedString (now (names .entry)) (now (declared .entry)) (now (numbers .entry)) (now (shapes .entry)) r level outer p k (now (out .exit)) (length (now (out .entry))) (x .fits) (x .len) ⌝ }
+{
+    let site = Site { level, outer };
+    let rest = named(
+        names,
+        declared,
+        numbers,
+        shapes,
+        out,
+        r as usize,
+        k as u8,
+        site,
+        0,
+    );
+    let a = leads(out, outer + p, k, rest);
+    let len = a.to;
+    Spelled {
+        fits: len <= out.len(),
+        len,
+    }
+}
+
+// The string of the expression that the bytes begin with, its names looked up in the context of module m.
+pub fn query_string(
+    expr: &[u8],
+    names: &[u16],
+    facts: &[u16],
+    contexts: &[u16],
+    heads: &[u16],
+    declared: &[u16],
+    shapes: &[u8],
+    m: usize,
+    out: &mut [u8],
+) -> Spelled
+    requires { ⌜ m ≤ maxModules ⌝ }
+    ensures { λ r. ⌜ QueryString (now (expr .entry)) (now (names .entry)) (now (facts .entry)) (contextCodes (now (contexts .entry)) (now (heads .entry)) m) (now (declared .entry)) (now (shapes .entry)) (now (out .exit)) (length (now (out .entry))) (r .fits) (r .len) ⌝ }
+{
+    let mut own = [0u16; Limits::DEFINITIONS];
+    identity(&mut own);
+    let a = ask_expr(
+        expr,
+        names,
+        facts,
+        contexts,
+        heads,
+        declared,
+        &own,
+        shapes,
+        out,
+        0,
+        Limits::NESTING,
+        m,
+        0,
+    );
+    let len = a.to;
+    Spelled {
+        fits: len <= out.len(),
+        len,
+    }
+}

@@ -1,0 +1,5 @@
+pub mod Symbol
+pub mod Spell
+pub mod Pieces
+pub mod Weight
+pub mod Row

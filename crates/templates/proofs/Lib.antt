@@ -1,0 +1,6 @@
+pub mod Numbers
+pub mod Storing
+pub mod Defining
+pub mod Highest
+pub mod Taking
+pub mod Template

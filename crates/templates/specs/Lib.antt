@@ -1,0 +1,5 @@
+pub mod Told
+pub mod Shaped
+pub mod Highest
+pub mod Taking
+pub mod Made

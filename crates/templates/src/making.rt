@@ -1,0 +1,418 @@
+// The template of a definition: the string of its text, from which the stand-ins are taken out, the highest number first, until only
+// definitions below it are called.
+ghost use mathlib.Core.Bool.{_&&_};
+use crate::shaping::prepare;
+use callees::strings::own_string;
+use callees::strings::standin_string;
+use limits::Limits;
+use rewriting::rewrite;
+use strings::Filled;
+use strings::Sign;
+use strings::symbol_at;
+use strings::width;
+ghost use mathlib.Core.Path.{_≡_};
+ghost use Prim.Native.Nat.{_*_, _≤_, _<_, max, min};
+ghost use lib.Dec.{ltb};
+ghost use lib.ListN.{length};
+ghost use Rattle.limits.specs.Limits.{fileBytes, maxDefinitions};
+ghost use Rattle.context.specs.Store.{store};
+ghost use Rattle.callees.specs.Walk.{Sized};
+ghost use Rattle.strings.specs.Read.{stringAt, symbolOf};
+ghost use Rattle.unfolding.specs.CalleeTerm.{maxLinks};
+ghost use Rattle.templates.specs.Highest.{highestNumber, numberCalled};
+ghost use Rattle.templates.specs.Made.{TemplateMade};
+ghost use Rattle.templates.specs.Shaped.{firstStandIn, shapeCount};
+ghost use Rattle.templates.specs.Taking.{AllTaken, OwnTaken, StepTaken, TakenOut, workBytes};
+
+fn greater(a: usize, b: usize) -> usize
+    ensures { λ r. ⌜ r ≡ max a b ⌝ }
+{
+    if a < b { b } else { a }
+}
+
+fn lesser(a: usize, b: usize) -> usize
+    ensures { λ r. ⌜ r ≡ min a b ⌝ }
+{
+    if a < b { a } else { b }
+}
+
+fn number_called(g: Sign) -> usize
+    ensures { λ r. ⌜ r ≡ numberCalled (symbolOf g) ⌝ }
+{
+    match g {
+        Sign::Par(_) => 0,
+        Sign::Var(_) => 0,
+        Sign::Name(_, _) => 0,
+        Sign::Code(_) => 0,
+        Sign::Number(_) => 0,
+        Sign::Call(n) => n as usize + 1,
+        Sign::Begin => 0,
+        Sign::End => 0,
+    }
+}
+
+// One more than the highest number that the string to n calls, 0 where it calls none.
+fn highest_number(s: &[u8], n: usize) -> usize
+    ensures { λ r. ⌜ (r ≡ highestNumber (stringAt (now (s .entry)) 0 n)) × (r ≤ shapeCount) ⌝ }
+{
+    let end = lesser(n, s.len());
+    let mut i: usize = 0;
+    let mut most: usize = 0;
+    while i < end {
+        let g = symbol_at(s, i);
+        most = greater(most, number_called(g));
+        i += width(g);
+    }
+    most
+}
+
+// Whether there was room, the string's length, and one more than the highest number that it calls.
+pub struct Left {
+    pub fits: bool,
+    pub len: usize,
+    pub highest: usize,
+}
+
+// Stand-in m taken out of the string in `work`, which is `len` bytes long.
+fn take_out(
+    file: &[u8],
+    refs: &[u16],
+    names: &[u16],
+    facts: &[u16],
+    contexts: &[u16],
+    orders: &[u16],
+    heads: &[u16],
+    declared: &[u16],
+    n: usize,
+    numbers: &[u16],
+    currents: &[u16],
+    outers: &[u16],
+    along: &[u8],
+    k: usize,
+    m: usize,
+    text: &mut [u8],
+    filled: &mut [u8],
+    work: &mut [u8],
+    len: usize,
+) -> Filled
+    requires { ⌜ Sized (now numbers) (now currents) (now outers) × (length (now text) ≡ 2 * fileBytes) × (length (now filled) ≡ workBytes) × (length (now work) ≡ workBytes) × (len ≤ workBytes) × (firstStandIn ≤ m) × (m < shapeCount) ⌝ }
+    ensures { λ r. ⌜ TakenOut (now (file .entry)) (now (refs .entry)) (store (now (names .entry)) (now (facts .entry)) (now (contexts .entry)) (now (orders .entry)) (now (heads .entry))) (now (declared .entry)) n k m (now (numbers .entry)) (now (currents .entry)) (now (outers .entry)) (now (along .entry)) (now (work .entry)) len (now (work .exit)) r ⌝ }
+{
+    let l = (m - Limits::DEFINITIONS) / Limits::DECLARATIONS - 1;
+    let e = (m - Limits::DEFINITIONS) % Limits::DECLARATIONS;
+    let t = standin_string(
+        file,
+        refs,
+        names,
+        facts,
+        contexts,
+        heads,
+        declared,
+        numbers,
+        currents,
+        outers,
+        along,
+        l,
+        e,
+        text,
+    );
+    rewrite(work, len, m as u16, text, t.len, along, filled)
+}
+
+fn goes_on(fits: bool, next: usize, h: usize) -> bool
+    ensures { λ r. ⌜ r ≡ (fits && ltb next h) ⌝ }
+{
+    if fits {
+        return next < h;
+    }
+    false
+}
+
+// The highest number that the string calls, one less than h, taken out of it.
+fn take_step(
+    file: &[u8],
+    refs: &[u16],
+    names: &[u16],
+    facts: &[u16],
+    contexts: &[u16],
+    orders: &[u16],
+    heads: &[u16],
+    declared: &[u16],
+    n: usize,
+    numbers: &[u16],
+    currents: &[u16],
+    outers: &[u16],
+    along: &[u8],
+    k: usize,
+    h: usize,
+    text: &mut [u8],
+    filled: &mut [u8],
+    work: &mut [u8],
+    len: usize,
+) -> Left
+    requires { ⌜ Sized (now numbers) (now currents) (now outers) × (length (now text) ≡ 2 * fileBytes) × (length (now filled) ≡ workBytes) × (length (now work) ≡ workBytes) × (len ≤ workBytes) × (firstStandIn < h) × (h ≤ shapeCount) ⌝ }
+    ensures { λ r. ⌜ StepTaken (now (file .entry)) (now (refs .entry)) (store (now (names .entry)) (now (facts .entry)) (now (contexts .entry)) (now (orders .entry)) (now (heads .entry))) (now (declared .entry)) n k h (now (numbers .entry)) (now (currents .entry)) (now (outers .entry)) (now (along .entry)) (now (work .entry)) len (now (work .exit)) r ⌝ }
+{
+    let f = take_out(
+        file,
+        refs,
+        names,
+        facts,
+        contexts,
+        orders,
+        heads,
+        declared,
+        n,
+        numbers,
+        currents,
+        outers,
+        along,
+        k,
+        h - 1,
+        text,
+        filled,
+        work,
+        len,
+    );
+    let highest = highest_number(work, f.len);
+    let fits = goes_on(f.fits, highest, h);
+    Left {
+        fits,
+        len: f.len,
+        highest,
+    }
+}
+
+// All stand-ins taken out of the string in `work`, which is `len` bytes long.
+fn take_all(
+    file: &[u8],
+    refs: &[u16],
+    names: &[u16],
+    facts: &[u16],
+    contexts: &[u16],
+    orders: &[u16],
+    heads: &[u16],
+    declared: &[u16],
+    n: usize,
+    numbers: &[u16],
+    currents: &[u16],
+    outers: &[u16],
+    along: &[u8],
+    k: usize,
+    text: &mut [u8],
+    filled: &mut [u8],
+    work: &mut [u8],
+    len: usize,
+) -> Filled
+    requires { ⌜ Sized (now numbers) (now currents) (now outers) × (length (now text) ≡ 2 * fileBytes) × (length (now filled) ≡ workBytes) × (length (now work) ≡ workBytes) × (len ≤ workBytes) ⌝ }
+    ensures { λ r. ⌜ AllTaken (now (file .entry)) (now (refs .entry)) (store (now (names .entry)) (now (facts .entry)) (now (contexts .entry)) (now (orders .entry)) (now (heads .entry))) (now (declared .entry)) n k (now (numbers .entry)) (now (currents .entry)) (now (outers .entry)) (now (along .entry)) (now (work .entry)) len (now (work .exit)) r ⌝ }
+{
+    let mut q = len;
+    let mut h = highest_number(work, len);
+    while Limits::DEFINITIONS + Limits::DECLARATIONS < h {
+        let t = take_step(
+            file,
+            refs,
+            names,
+            facts,
+            contexts,
+            orders,
+            heads,
+            declared,
+            n,
+            numbers,
+            currents,
+            outers,
+            along,
+            k,
+            h,
+            text,
+            filled,
+            work,
+            q,
+        );
+        if t.fits {
+            q = t.len;
+            h = t.highest;
+        } else {
+            return Filled {
+                fits: false,
+                len: q,
+            };
+        }
+    }
+    Filled { fits: true, len: q }
+}
+
+// The text of the definition whose chain the arrays hold, k links long, with all stand-ins taken out.
+fn own_template(
+    file: &[u8],
+    refs: &[u16],
+    names: &[u16],
+    facts: &[u16],
+    contexts: &[u16],
+    orders: &[u16],
+    heads: &[u16],
+    declared: &[u16],
+    n: usize,
+    numbers: &[u16],
+    currents: &[u16],
+    outers: &[u16],
+    along: &[u8],
+    k: usize,
+    text: &mut [u8],
+    filled: &mut [u8],
+    work: &mut [u8],
+) -> Filled
+    requires { ⌜ Sized (now numbers) (now currents) (now outers) × (length (now text) ≡ 2 * fileBytes) × (length (now filled) ≡ workBytes) × (length (now work) ≡ workBytes) × (k ≤ maxLinks) ⌝ }
+    ensures { λ r. ⌜ OwnTaken (now (file .entry)) (now (refs .entry)) (store (now (names .entry)) (now (facts .entry)) (now (contexts .entry)) (now (orders .entry)) (now (heads .entry))) (now (declared .entry)) n k (now (numbers .entry)) (now (currents .entry)) (now (outers .entry)) (now (along .entry)) (now (work .exit)) r ⌝ }
+{
+    let t = own_string(
+        file,
+        refs,
+        names,
+        facts,
+        declared,
+        numbers,
+        currents,
+        outers,
+        along,
+        k,
+        work,
+    );
+    if t.len <= work.len() {
+        return take_all(
+            file,
+            refs,
+            names,
+            facts,
+            contexts,
+            orders,
+            heads,
+            declared,
+            n,
+            numbers,
+            currents,
+            outers,
+            along,
+            k,
+            text,
+            filled,
+            work,
+            t.len,
+        );
+    }
+    Filled {
+        fits: false,
+        len: 0,
+    }
+}
+
+// The template of definition d, in arrays lent for it.
+fn make_template(
+    file: &[u8],
+    refs: &[u16],
+    names: &[u16],
+    facts: &[u16],
+    contexts: &[u16],
+    orders: &[u16],
+    heads: &[u16],
+    declared: &[u16],
+    n: usize,
+    shapes: &[u8],
+    d: usize,
+    numbers: &mut [u16],
+    currents: &mut [u16],
+    outers: &mut [u16],
+    text: &mut [u8],
+    along: &mut [u8],
+    filled: &mut [u8],
+    work: &mut [u8],
+) -> Filled
+    requires { ⌜ Sized (now numbers) (now currents) (now outers) × (length (now text) ≡ 2 * fileBytes) × (length (now along) ≡ shapeCount) × (length (now shapes) ≡ maxDefinitions) × (d < maxDefinitions) × (length (now filled) ≡ workBytes) × (length (now work) ≡ workBytes) ⌝ }
+    ensures { λ r. ⌜ TemplateMade (now (file .entry)) (now (refs .entry)) (store (now (names .entry)) (now (facts .entry)) (now (contexts .entry)) (now (orders .entry)) (now (heads .entry))) (now (declared .entry)) n d (now (shapes .entry)) (now (work .exit)) r ⌝ }
+{
+    let k = prepare(
+        file,
+        refs,
+        names,
+        facts,
+        contexts,
+        orders,
+        heads,
+        declared,
+        n,
+        shapes,
+        d,
+        numbers,
+        currents,
+        outers,
+        text,
+        along,
+    );
+    own_template(
+        file,
+        refs,
+        names,
+        facts,
+        contexts,
+        orders,
+        heads,
+        declared,
+        n,
+        numbers,
+        currents,
+        outers,
+        along,
+        k,
+        text,
+        filled,
+        work,
+    )
+}
+
+// The template of definition d: the shapes of the definitions are given.
+pub fn template(
+    file: &[u8],
+    refs: &[u16],
+    names: &[u16],
+    facts: &[u16],
+    contexts: &[u16],
+    orders: &[u16],
+    heads: &[u16],
+    declared: &[u16],
+    n: usize,
+    shapes: &[u8],
+    d: usize,
+    work: &mut [u8],
+    filled: &mut [u8],
+) -> Filled
+    requires { ⌜ (length (now shapes) ≡ maxDefinitions) × (d < maxDefinitions) × (length (now work) ≡ workBytes) × (length (now filled) ≡ workBytes) ⌝ }
+    ensures { λ r. ⌜ TemplateMade (now (file .entry)) (now (refs .entry)) (store (now (names .entry)) (now (facts .entry)) (now (contexts .entry)) (now (orders .entry)) (now (heads .entry))) (now (declared .entry)) n d (now (shapes .entry)) (now (work .exit)) r ⌝ }
+{
+    let mut numbers = [0u16; 16 * Limits::DEFINITIONS];
+    let mut currents = [0u16; 16];
+    let mut outers = [0u16; 16];
+    let mut text = [0u8; 65536];
+    let mut along = [0u8; 1280];
+    make_template(
+        file,
+        refs,
+        names,
+        facts,
+        contexts,
+        orders,
+        heads,
+        declared,
+        n,
+        shapes,
+        d,
+        &mut numbers,
+        &mut currents,
+        &mut outers,
+        &mut text,
+        &mut along,
+        filled,
+        work,
+    )
+}

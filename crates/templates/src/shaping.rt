@@ -1,0 +1,362 @@
+// The shapes of the stand-ins along a chain, and of all definitions, each worked out from the string of its text.
+use callees::chain::enter_chain;
+use callees::strings::own_string;
+use callees::strings::standin_string;
+use limits::Limits;
+use strings::shape_of;
+use tokens::byte_at;
+ghost use mathlib.Core.Path.{_≡_};
+ghost use Prim.Native.Nat.{_*_, _≤_, _<_};
+ghost use lib.ListN.{length};
+ghost use Rattle.limits.specs.Limits.{fileBytes, maxDefinitions};
+ghost use Rattle.context.specs.Store.{store};
+ghost use Rattle.callees.specs.Walk.{Sized};
+ghost use Rattle.unfolding.specs.CalleeTerm.{maxLinks};
+ghost use Rattle.templates.specs.Shaped.{Begun, Cleared, DefinitionStored, DefinitionsShaped, Kept, OwnShape, Prepared, StandInShape, StandInsStored, firstStandIn, shapeCount};
+
+fn kept_shape(h: u8) -> u8
+    ensures { λ r. ⌜ Kept h r ⌝ }
+{
+    if h < 128 { h } else { 0 }
+}
+
+// The shapes of the definitions, and none yet of any stand-in.
+fn begin_shapes(shapes: &[u8], along: &mut [u8])
+    requires { ⌜ (length (now shapes) ≡ maxDefinitions) × (length (now along) ≡ shapeCount) ⌝ }
+    ensures { λ r. ⌜ Begun (now (shapes .entry)) (now (along .exit)) ⌝ }
+{
+    let mut i: usize = 0;
+    while i < 1280 {
+        along[i] = byte_at(shapes, i);
+        i += 1;
+    }
+}
+
+// The shape of stand-in m.
+fn standin_shape(
+    file: &[u8],
+    refs: &[u16],
+    names: &[u16],
+    facts: &[u16],
+    contexts: &[u16],
+    orders: &[u16],
+    heads: &[u16],
+    declared: &[u16],
+    n: usize,
+    numbers: &[u16],
+    currents: &[u16],
+    outers: &[u16],
+    text: &mut [u8],
+    along: &[u8],
+    m: usize,
+) -> u8
+    requires { ⌜ Sized (now numbers) (now currents) (now outers) × (length (now text) ≡ 2 * fileBytes) × (firstStandIn ≤ m) × (m < shapeCount) ⌝ }
+    ensures { λ r. ⌜ StandInShape (now (file .entry)) (now (refs .entry)) (store (now (names .entry)) (now (facts .entry)) (now (contexts .entry)) (now (orders .entry)) (now (heads .entry))) (now (declared .entry)) n m (now (numbers .entry)) (now (currents .entry)) (now (outers .entry)) (now (along .entry)) r ⌝ }
+{
+    let l = (m - Limits::DEFINITIONS) / Limits::DECLARATIONS - 1;
+    let e = (m - Limits::DEFINITIONS) % Limits::DECLARATIONS;
+    let t = standin_string(
+        file,
+        refs,
+        names,
+        facts,
+        contexts,
+        heads,
+        declared,
+        numbers,
+        currents,
+        outers,
+        along,
+        l,
+        e,
+        text,
+    );
+    kept_shape(shape_of(text, t.len))
+}
+
+// The shapes of the stand-ins of k levels.
+fn shape_standins(
+    file: &[u8],
+    refs: &[u16],
+    names: &[u16],
+    facts: &[u16],
+    contexts: &[u16],
+    orders: &[u16],
+    heads: &[u16],
+    declared: &[u16],
+    n: usize,
+    numbers: &[u16],
+    currents: &[u16],
+    outers: &[u16],
+    text: &mut [u8],
+    along: &mut [u8],
+    k: usize,
+)
+    requires { ⌜ Sized (now numbers) (now currents) (now outers) × (length (now text) ≡ 2 * fileBytes) × (length (now along) ≡ shapeCount) × (k ≤ maxLinks) ⌝ }
+    ensures { λ r. ⌜ StandInsStored (now (file .entry)) (now (refs .entry)) (store (now (names .entry)) (now (facts .entry)) (now (contexts .entry)) (now (orders .entry)) (now (heads .entry))) (now (declared .entry)) n k (now (numbers .entry)) (now (currents .entry)) (now (outers .entry)) (now (along .entry)) (now (along .exit)) ⌝ }
+{
+    let end = Limits::DEFINITIONS + Limits::DECLARATIONS * (k + 1);
+    let mut m: usize = Limits::DEFINITIONS + Limits::DECLARATIONS;
+    while m < end {
+        let h = standin_shape(
+            file,
+            refs,
+            names,
+            facts,
+            contexts,
+            orders,
+            heads,
+            declared,
+            n,
+            numbers,
+            currents,
+            outers,
+            text,
+            along,
+            m,
+        );
+        along[m] = h;
+        m += 1;
+    }
+}
+
+// The chain of definition d, with the shapes along it; how many links it has.
+pub fn prepare(
+    file: &[u8],
+    refs: &[u16],
+    names: &[u16],
+    facts: &[u16],
+    contexts: &[u16],
+    orders: &[u16],
+    heads: &[u16],
+    declared: &[u16],
+    n: usize,
+    shapes: &[u8],
+    d: usize,
+    numbers: &mut [u16],
+    currents: &mut [u16],
+    outers: &mut [u16],
+    text: &mut [u8],
+    along: &mut [u8],
+) -> usize
+    requires { ⌜ Sized (now numbers) (now currents) (now outers) × (length (now text) ≡ 2 * fileBytes) × (length (now along) ≡ shapeCount) × (length (now shapes) ≡ maxDefinitions) × (d < maxDefinitions) ⌝ }
+    ensures { λ r. ⌜ Prepared (now (file .entry)) (now (refs .entry)) (store (now (names .entry)) (now (facts .entry)) (now (contexts .entry)) (now (orders .entry)) (now (heads .entry))) (now (declared .entry)) n d (now (shapes .entry)) r (now (numbers .exit)) (now (currents .exit)) (now (outers .exit)) (now (along .exit)) ⌝ }
+{
+    begin_shapes(shapes, along);
+    let k = enter_chain(facts, orders, heads, d, numbers, currents, outers);
+    shape_standins(
+        file,
+        refs,
+        names,
+        facts,
+        contexts,
+        orders,
+        heads,
+        declared,
+        n,
+        numbers,
+        currents,
+        outers,
+        text,
+        along,
+        k,
+    );
+    k
+}
+
+// The shape of the definition whose chain the arrays hold.
+fn own_shape(
+    file: &[u8],
+    refs: &[u16],
+    names: &[u16],
+    facts: &[u16],
+    contexts: &[u16],
+    orders: &[u16],
+    heads: &[u16],
+    declared: &[u16],
+    n: usize,
+    numbers: &[u16],
+    currents: &[u16],
+    outers: &[u16],
+    text: &mut [u8],
+    along: &[u8],
+    k: usize,
+) -> u8
+    requires { ⌜ Sized (now numbers) (now currents) (now outers) × (length (now text) ≡ 2 * fileBytes) × (k ≤ maxLinks) ⌝ }
+    ensures { λ r. ⌜ OwnShape (now (file .entry)) (now (refs .entry)) (store (now (names .entry)) (now (facts .entry)) (now (contexts .entry)) (now (orders .entry)) (now (heads .entry))) (now (declared .entry)) n k (now (numbers .entry)) (now (currents .entry)) (now (outers .entry)) (now (along .entry)) r ⌝ }
+{
+    let t = own_string(
+        file,
+        refs,
+        names,
+        facts,
+        declared,
+        numbers,
+        currents,
+        outers,
+        along,
+        k,
+        text,
+    );
+    kept_shape(shape_of(text, t.len))
+}
+
+// The shape of definition d, by those of the definitions before it.
+fn shape_definition(
+    file: &[u8],
+    refs: &[u16],
+    names: &[u16],
+    facts: &[u16],
+    contexts: &[u16],
+    orders: &[u16],
+    heads: &[u16],
+    declared: &[u16],
+    n: usize,
+    d: usize,
+    numbers: &mut [u16],
+    currents: &mut [u16],
+    outers: &mut [u16],
+    text: &mut [u8],
+    along: &mut [u8],
+    shapes: &mut [u8],
+)
+    requires { ⌜ Sized (now numbers) (now currents) (now outers) × (length (now text) ≡ 2 * fileBytes) × (length (now along) ≡ shapeCount) × (length (now shapes) ≡ maxDefinitions) × (d < maxDefinitions) ⌝ }
+    ensures { λ r. ⌜ DefinitionStored (now (file .entry)) (now (refs .entry)) (store (now (names .entry)) (now (facts .entry)) (now (contexts .entry)) (now (orders .entry)) (now (heads .entry))) (now (declared .entry)) n d (now (shapes .entry)) (now (shapes .exit)) ⌝ }
+{
+    let k = prepare(
+        file,
+        refs,
+        names,
+        facts,
+        contexts,
+        orders,
+        heads,
+        declared,
+        n,
+        shapes,
+        d,
+        numbers,
+        currents,
+        outers,
+        text,
+        along,
+    );
+    let h = own_shape(
+        file,
+        refs,
+        names,
+        facts,
+        contexts,
+        orders,
+        heads,
+        declared,
+        n,
+        numbers,
+        currents,
+        outers,
+        text,
+        along,
+        k,
+    );
+    shapes[d] = h;
+}
+
+fn clear_shapes(shapes: &mut [u8])
+    requires { ⌜ length (now shapes) ≡ maxDefinitions ⌝ }
+    ensures { λ r. ⌜ Cleared (now (shapes .exit)) ⌝ }
+{
+    let mut i: usize = 0;
+    while i < Limits::DEFINITIONS {
+        shapes[i] = 0;
+        i += 1;
+    }
+}
+
+// The shapes of the first definitions, so many, in arrays lent for it.
+fn shape_all(
+    file: &[u8],
+    refs: &[u16],
+    names: &[u16],
+    facts: &[u16],
+    contexts: &[u16],
+    orders: &[u16],
+    heads: &[u16],
+    declared: &[u16],
+    n: usize,
+    count: usize,
+    numbers: &mut [u16],
+    currents: &mut [u16],
+    outers: &mut [u16],
+    text: &mut [u8],
+    along: &mut [u8],
+    shapes: &mut [u8],
+)
+    requires { ⌜ Sized (now numbers) (now currents) (now outers) × (length (now text) ≡ 2 * fileBytes) × (length (now along) ≡ shapeCount) × (length (now shapes) ≡ maxDefinitions) × (count ≤ maxDefinitions) ⌝ }
+    ensures { λ r. ⌜ DefinitionsShaped (now (file .entry)) (now (refs .entry)) (store (now (names .entry)) (now (facts .entry)) (now (contexts .entry)) (now (orders .entry)) (now (heads .entry))) (now (declared .entry)) n count (now (shapes .exit)) ⌝ }
+{
+    clear_shapes(shapes);
+    let mut d: usize = 0;
+    while d < count {
+        shape_definition(
+            file,
+            refs,
+            names,
+            facts,
+            contexts,
+            orders,
+            heads,
+            declared,
+            n,
+            d,
+            numbers,
+            currents,
+            outers,
+            text,
+            along,
+            shapes,
+        );
+        d += 1;
+    }
+}
+
+// The shapes of the first definitions, so many.
+pub fn shape_definitions(
+    file: &[u8],
+    refs: &[u16],
+    names: &[u16],
+    facts: &[u16],
+    contexts: &[u16],
+    orders: &[u16],
+    heads: &[u16],
+    declared: &[u16],
+    n: usize,
+    count: usize,
+    shapes: &mut [u8],
+)
+    requires { ⌜ (length (now shapes) ≡ maxDefinitions) × (count ≤ maxDefinitions) ⌝ }
+    ensures { λ r. ⌜ DefinitionsShaped (now (file .entry)) (now (refs .entry)) (store (now (names .entry)) (now (facts .entry)) (now (contexts .entry)) (now (orders .entry)) (now (heads .entry))) (now (declared .entry)) n count (now (shapes .exit)) ⌝ }
+{
+    let mut numbers = [0u16; 16 * Limits::DEFINITIONS];
+    let mut currents = [0u16; 16];
+    let mut outers = [0u16; 16];
+    let mut text = [0u8; 65536];
+    let mut along = [0u8; 1280];
+    shape_all(
+        file,
+        refs,
+        names,
+        facts,
+        contexts,
+        orders,
+        heads,
+        declared,
+        n,
+        count,
+        &mut numbers,
+        &mut currents,
+        &mut outers,
+        &mut text,
+        &mut along,
+        shapes,
+    );
+}

@@ -1,0 +1,11 @@
+pub mod InWorld
+pub mod Meaning
+pub mod Right
+pub mod Replace
+pub mod Prune
+pub mod Sense
+pub mod StandIn
+pub mod AtLevel
+pub mod Unfolding
+pub mod Hole
+pub mod CalleeTerm
