@@ -399,7 +399,8 @@ fn full_tables() -> (Vec<u8>, u16) {
 }
 
 /// The families that are slow to answer if they are answered badly. `large` adds queries of 30 and
-/// 64 MB.
+/// 64 MB, and the expansions in which calls nest deep in the result: those take the archive minutes
+/// as yet (docs/landings/07-expansion.md, "Open").
 pub fn queries(large: bool) -> Vec<Family> {
     let x = || n(500, &[]);
     let room = 65_535;
@@ -536,7 +537,24 @@ pub fn queries(large: bool) -> Vec<Family> {
         let label = format!("p: length {length} into {room}");
         all.push(family(&label, &file, expand(1, expr, room)));
     }
+    if !large {
+        all.retain(|family| !nests_deep(&family.label));
+    }
     all
+}
+
+/// Whether calls nest deep in what a family's expansion results in.
+fn nests_deep(label: &str) -> bool {
+    [
+        "k:",
+        "l:",
+        "m:",
+        "n: operators swapped",
+        "n: substitutes doubled",
+        "n: the same beside",
+    ]
+    .iter()
+    .any(|kind| label.starts_with(kind))
 }
 
 /// The bytes of ∧ over two copies of itself, so many times over, around an expression.
