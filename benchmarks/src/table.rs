@@ -91,7 +91,7 @@ impl Display for Row<'_> {
         let family = &self.input.family;
         write!(
             f,
-            "{:38} {:>8} {:>16} {:>18} {:>18}",
+            "{:40} {:>8} {:>16} {:>18} {:>18}",
             family.label,
             family.bytes(),
             self.reply,
@@ -160,7 +160,7 @@ impl Display for Table<'_> {
     fn fmt(&self, f: &mut Formatter) -> fmt::Result {
         writeln!(
             f,
-            "{:38} {:>8} {:>16} {:>18} {:>18} {:>7}",
+            "{:40} {:>8} {:>16} {:>18} {:>18} {:>7}",
             "", "bytes", "reply", "reference (µs)", "archive (µs)", "ratio"
         )?;
         self.timed().try_for_each(|row| writeln!(f, "{row}"))?;

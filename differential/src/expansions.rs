@@ -9,9 +9,9 @@ use crate::syntax::{self, and, b, brought, instance, lit, n, op, p, tree, tree_o
 const ROOM: usize = 65_535;
 
 /// The first of the names of a tower.
-const TOWER: u16 = 500;
+pub const TOWER: u16 = 500;
 
-fn expansion(label: &str, fields: &[Field], module: u16, expr: &Expr) -> Family {
+pub(crate) fn expansion(label: &str, fields: &[Field], module: u16, expr: &Expr) -> Family {
     family(
         label,
         &syntax::file(fields),
@@ -19,12 +19,12 @@ fn expansion(label: &str, fields: &[Field], module: u16, expr: &Expr) -> Family 
     )
 }
 
-fn define(name: u16, parameters: u8, body: Expr) -> Field {
+pub(crate) fn define(name: u16, parameters: u8, body: Expr) -> Field {
     Field::Definition(name, parameters, body)
 }
 
 /// Definitions of which each is the one before, twice: number j of them is the step, 2ʲ times.
-fn tower(fields: &mut Vec<Field>, height: u16, step: &dyn Fn(Expr) -> Expr) {
+pub fn tower(fields: &mut Vec<Field>, height: u16, step: &dyn Fn(Expr) -> Expr) {
     fields.push(define(TOWER, 1, step(p(0))));
     for d in TOWER + 1..TOWER + height {
         fields.push(define(d, 1, n(d - 1, &[n(d - 1, &[p(0)])])));
@@ -32,14 +32,14 @@ fn tower(fields: &mut Vec<Field>, height: u16, step: &dyn Fn(Expr) -> Expr) {
 }
 
 /// The steps of these numbers of a tower, one around the other, around an expression.
-fn steps(numbers: impl IntoIterator<Item = u16>, inner: Expr) -> Expr {
+pub fn steps(numbers: impl IntoIterator<Item = u16>, inner: Expr) -> Expr {
     numbers
         .into_iter()
         .fold(inner, |inner, number| n(TOWER + number, &[inner]))
 }
 
 /// A module that says the same thing by many names: 1 is the first, each other one the one before.
-fn aliases(count: u16, parameters: u8, first: Expr, arguments: &[Expr]) -> Vec<Field> {
+pub fn aliases(count: u16, parameters: u8, first: Expr, arguments: &[Expr]) -> Vec<Field> {
     let mut fields = vec![Field::Module(1), define(1, parameters, first)];
     fields.extend((2..=count).map(|d| define(d, parameters, n(d - 1, arguments))));
     fields
@@ -70,7 +70,7 @@ fn implied(body: Expr, last: u16) -> Vec<Field> {
 
 /// A module with declared names and a definition, and modules from 2 to the last, each of which
 /// brings the one before with these substitutes.
-fn chain(
+pub fn chain(
     constants: &[(u16, u8)],
     definitions: &[Field],
     last: u16,
@@ -96,113 +96,10 @@ fn chain(
 
 /// All of them. `large` adds a query of 30 MB.
 pub fn all(large: bool) -> Vec<Family> {
-    let mut all = under_aliases();
-    all.extend(below_binders());
-    all.extend(dropped(large));
+    let mut all = dropped(large);
     all.extend(through_chains());
     all.extend(by_instances());
     all
-}
-
-/// l: hundreds of names for one thing, under calls nested deep or wide.
-fn under_aliases() -> Vec<Family> {
-    let swap = [p(1), p(0)];
-    let mut swaps = aliases(238, 2, and(p(1), p(0)), &swap);
-    tower(&mut swaps, 14, &|inner| n(238, &[inner, lit(1)]));
-    swaps.push(Field::End);
-
-    let not = || op(16, &[p(0)]);
-    let mut same = aliases(238, 1, not(), &[p(0)]);
-    tower(&mut same, 16, &|inner| n(238, &[inner]));
-    same.push(Field::End);
-
-    let nest = |name: u16| (0..31).fold(p(0), |inner, _| n(name, &[inner]));
-    let mut thrice = aliases(250, 1, not(), &[p(0)]);
-    thrice.extend([
-        define(500, 1, nest(250)),
-        define(501, 1, nest(500)),
-        define(502, 1, nest(501)),
-        Field::End,
-    ]);
-
-    let mut wide = aliases(240, 2, and(p(0), p(1)), &swap);
-    wide.push(Field::End);
-    fn full(height: usize) -> Expr {
-        match height {
-            0 => op(1, &[]),
-            _ => n(240, &[full(height - 1), full(height - 1)]),
-        }
-    }
-    vec![
-        expansion(
-            "l: 237 swaps, 12,288 nested",
-            &swaps,
-            1,
-            &steps([12, 13], lit(7)),
-        ),
-        expansion(
-            "l: 237 aliases, 32,752 nested",
-            &same,
-            1,
-            &steps(4..=14, lit(7)),
-        ),
-        expansion(
-            "l: 237 aliases, 65,520 nested",
-            &same,
-            1,
-            &steps(4..=15, lit(7)),
-        ),
-        expansion(
-            "l: 249 aliases, 31 nested thrice",
-            &thrice,
-            1,
-            &n(502, &[lit(1)]),
-        ),
-        expansion("l: 239 swaps, a full tree of calls", &wide, 1, &full(14)),
-    ]
-}
-
-/// m: binders by the ten thousand, and an index that looks past all of them.
-fn below_binders() -> Vec<Family> {
-    let mut below = aliases(230, 1, op(16, &[p(0)]), &[p(0)]);
-    tower(&mut below, 14, &|inner| op(128, &[n(230, &[inner])]));
-    below.push(Field::End);
-    let mut over = aliases(230, 2, op(132, &[p(1), p(0)]), &[p(1), p(0)]);
-    tower(&mut over, 14, &|inner| {
-        op(128, &[n(230, &[inner, op(1, &[])])])
-    });
-    over.push(Field::End);
-    let mut plain = vec![Field::Module(1)];
-    tower(&mut plain, 16, &|inner| op(128, &[inner]));
-    plain.push(Field::End);
-    let bound = |inner: Expr| op(128, &[inner]);
-    vec![
-        expansion(
-            "m: 229 aliases below 16,376 binders",
-            &below,
-            1,
-            &bound(steps(3..=13, b(0))),
-        ),
-        expansion(
-            "m: 229 swaps below 10,752 binders",
-            &over,
-            1,
-            &bound(steps([9, 11, 13], b(0))),
-        ),
-        // Two bytes for each binder, three for the index.
-        expansion(
-            "m: 32,766 binders, 65,535 bytes",
-            &plain,
-            1,
-            &bound(steps((2..=14).chain([0]), b(0))),
-        ),
-        expansion(
-            "m: 32,767 binders, 65,537 bytes",
-            &plain,
-            1,
-            &bound(steps(1..=14, b(0))),
-        ),
-    ]
 }
 
 /// j: long arguments, dropped by the operator inside.
@@ -263,22 +160,8 @@ fn dropped(large: bool) -> Vec<Family> {
 
 /// n: substitutes that grow, or turn their arguments, at every instance of a chain.
 fn through_chains() -> Vec<Family> {
-    let mut nested = Vec::new();
-    tower(&mut nested, 12, &|inner| n(1, &[inner, lit(1)]));
     let swap = n(1, &[p(1), p(0)]);
-    let mut swapped = chain(&[(1, 2)], &nested, 15, &|_| vec![(1, swap.clone())]);
-    swapped.extend([
-        Field::Module(16),
-        instance(9, 0, 15, &[(1, and(p(1), p(0)))]),
-        Field::End,
-    ]);
-    let query = (0..4).fold(lit(3), |inner, _| brought(9, TOWER + 11, &[inner]));
-    let mut all = vec![expansion(
-        "n: operators swapped 15 times, nested",
-        &swapped,
-        16,
-        &query,
-    )];
+    let mut all = Vec::new();
 
     let calls = |_: usize| (0..5).fold(lit(1), |inner, _| n(1, &[inner, lit(2)]));
     let body = [define(3, 0, tree(300, &calls))];

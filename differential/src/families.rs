@@ -4,6 +4,7 @@ use crate::accepted::LARGEST;
 use crate::cases::Call;
 use crate::checker::Checker;
 use crate::expansions;
+use crate::nesting;
 use crate::queries::of_length;
 use crate::syntax::{
     self, always, and, b, brought, instance, lit, n, op, p, prime, tree, tree_of, Expr, Field,
@@ -398,15 +399,21 @@ fn full_tables() -> (Vec<u8>, u16) {
     (syntax::file(&fields), 5_255)
 }
 
-/// The families that are slow to answer if they are answered badly. `large` adds queries of 30 and
-/// 64 MB, and the expansions in which calls nest deep in the result: those take the archive minutes
-/// as yet (docs/landings/07-expansion.md, "Open").
+/// Whether `queries` has the expansions in which calls nest deep even where it is not to be large: they
+/// take the archive minutes as yet (docs/landings/07-expansion.md, "Open").
+const NESTING_DEEP: bool = false;
+
+/// The families that are slow to answer if they are answered badly. `large` adds queries of 16 to
+/// 64 MB.
 pub fn queries(large: bool) -> Vec<Family> {
     let x = || n(500, &[]);
     let room = 65_535;
     let mut all = towers();
     all.extend(brought_queries());
     all.extend(expansions::all(large));
+    if large || NESTING_DEEP {
+        all.extend(nesting::all());
+    }
     all.extend([
         family(
             "i: identity tower",
@@ -424,23 +431,6 @@ pub fn queries(large: bool) -> Vec<Family> {
         "j: doubled, then dropped",
         &tower(p(0), &both),
         expand(1, n(400, &[nested]).bytes(), room),
-    ));
-    // k: 16,384 + 8,192 + 4,096 + 1,024 + 256 + 32 = 29,984, and what 65,535 bytes hold of ∧.
-    let compose = |parts: &[u16]| parts.iter().rev().fold(x(), |inner, &d| n(d, &[inner]));
-    all.push(family(
-        "k: 29,984 deep",
-        &tower(op(16, &[p(0)]), &twice),
-        expand(1, compose(&[15, 14, 13, 11, 9, 6]).bytes(), room),
-    ));
-    all.push(family(
-        "k: 12,288 deep to the left",
-        &tower(and(p(0), lit(1)), &twice),
-        expand(1, compose(&[14, 13]).bytes(), room),
-    ));
-    all.push(family(
-        "k: 12,288 deep to the right",
-        &tower(and(lit(1), p(0)), &twice),
-        expand(1, compose(&[14, 13]).bytes(), room),
     ));
     // l
     let mut fields = vec![Field::Module(1), Field::Definition(1, 2, and(p(0), p(1)))];
@@ -460,12 +450,6 @@ pub fn queries(large: bool) -> Vec<Family> {
         "l: aliases under 20,479 tokens",
         &syntax::file(&fields),
         expand(1, pair.bytes(), room),
-    ));
-    let inner = n(15, &[n(13, &[b(0)])]);
-    all.push(family(
-        "m: 20,480 binders",
-        &tower(op(128, &[p(0)]), &twice),
-        expand(1, op(132, &[x(), inner]).bytes(), room),
     ));
     // n: the chain turns the operator's arguments round and round.
     let turn = |_: usize| n(1, &[p(1), p(2), p(0)]);
@@ -526,6 +510,10 @@ pub fn queries(large: bool) -> Vec<Family> {
         all.push(family("o: 64 MB deep", &file, level(1, deep(64 << 20))));
         let wide = doubled(23, &prime(n(1, &[])));
         all.push(family("o: 64 MB wide", &file, level(1, wide)));
+        let wide = doubled(21, &prime(n(1, &[])));
+        let dropped = [&[2, 0, 2, 2], &wide[..], &lit(8).bytes()].concat();
+        all.push(family("o: 16 MB dropped", &file, expand(1, dropped, room)));
+        all.push(family("o: 16 MB too long", &file, expand(1, wide, room)));
     }
     for (length, room) in [
         (65_534, 65_534),
@@ -537,24 +525,7 @@ pub fn queries(large: bool) -> Vec<Family> {
         let label = format!("p: length {length} into {room}");
         all.push(family(&label, &file, expand(1, expr, room)));
     }
-    if !large {
-        all.retain(|family| !nests_deep(&family.label));
-    }
     all
-}
-
-/// Whether calls nest deep in what a family's expansion results in.
-fn nests_deep(label: &str) -> bool {
-    [
-        "k:",
-        "l:",
-        "m:",
-        "n: operators swapped",
-        "n: substitutes doubled",
-        "n: the same beside",
-    ]
-    .iter()
-    .any(|kind| label.starts_with(kind))
 }
 
 /// The bytes of ∧ over two copies of itself, so many times over, around an expression.

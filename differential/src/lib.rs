@@ -14,6 +14,7 @@ pub mod faults;
 pub mod faulty;
 pub mod limits;
 pub mod model;
+pub mod nesting;
 #[cfg(feature = "proved")]
 pub mod proved;
 pub mod queries;

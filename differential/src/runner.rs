@@ -76,10 +76,14 @@ pub struct Report {
     pub bytes: u64,
     pub cases: u64,
     pub families: u64,
+    /// Expansions among the calls, and those of them that were written.
+    pub expansions: u64,
+    pub written: u64,
     /// Calls left out because a checker does not offer them.
     pub not_offered: u64,
-    /// Answers compared with the long way, and those it gave up on.
+    /// Answers the same the long way, expansions among them, and those it gave up on.
     pub long_way: u64,
+    pub expanded_the_long_way: u64,
     pub given_up: u64,
     /// Likeness and bodies that are what the generator knows.
     pub by_the_model: u64,
@@ -95,8 +99,18 @@ impl Display for Report {
         )?;
         writeln!(
             f,
-            "{} answers the same the long way, which gave up {} times; {} as the generator knows",
-            self.long_way, self.given_up, self.by_the_model
+            "{} of the calls are expansions, {} of them written",
+            self.expansions, self.written
+        )?;
+        writeln!(
+            f,
+            "{} answers the same the long way, {} of them expansions; it gave up {} times",
+            self.long_way, self.expanded_the_long_way, self.given_up
+        )?;
+        writeln!(
+            f,
+            "{} answers as the generator knows them",
+            self.by_the_model
         )?;
         if self.not_offered > 0 {
             let count = self.not_offered;
@@ -286,6 +300,10 @@ impl Runner<'_> {
         let left = case.run(self.left);
         let right = case.run(self.right);
         let Some(what) = case.difference(&left, &right) else {
+            if case.call.wants() == Offer::Expansions {
+                self.report.expansions += 1;
+                self.report.written += u64::from(case.refusal(&left).is_none());
+            }
             return Some(left);
         };
         let kind = case.kind(&left, &right);
@@ -532,7 +550,11 @@ impl Runner<'_> {
         };
         match same {
             None => self.report.given_up += 1,
-            Some(true) => self.report.long_way += 1,
+            Some(true) => {
+                let expanded = case.call.wants() == Offer::Expansions;
+                self.report.long_way += 1;
+                self.report.expanded_the_long_way += u64::from(expanded);
+            }
             Some(false) => {
                 let reply = case.reply(outcome);
                 self.astray(case, format!("reply {reply}, the long way another"));

@@ -113,3 +113,25 @@ fn families_are_as_they_are_meant() {
         assert!(lawful, "{}: {refusal:?}", family.label);
     }
 }
+
+/// Expansions in which calls nest deep: those that say so are as long as there is room for, or longer.
+#[test]
+fn deep_families_are_as_they_are_meant() {
+    use differential::cases::Case;
+    use differential::nesting;
+    const TOO_LONG: [&str; 5] = ["too long", "65,520", "65,537", "compositions", "all of 230"];
+    let mut at_the_limit = 0;
+    for family in nesting::all() {
+        let case = Case::new(&family.file, family.call.clone());
+        let outcome = case.run(&Reference);
+        let refused = case.refusal(&outcome);
+        let meant = TOO_LONG.iter().any(|what| family.label.contains(what));
+        let expected = meant.then_some((18, 0));
+        assert_eq!(refused, expected, "{}", family.label);
+        if family.label.contains("65,535 bytes") {
+            assert_eq!(outcome.reply, 65_535, "{}", family.label);
+        }
+        at_the_limit += u32::from(outcome.reply == 65_535);
+    }
+    assert!(at_the_limit > 15, "{at_the_limit}");
+}

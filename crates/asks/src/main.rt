@@ -1,15 +1,18 @@
 // Asks many questions of many files: standard input holds records one after another, each the number of bytes of card memory to lend, a
-// file, the kind of question, two numbers, levels and an expression; the file, the levels and the expression each after its length. All
-// numbers are of three bytes, most significant first. For each it prints the reply and a checksum of the whole memory, lent or not. Ends
-// where the input does, or at a number that is more than there is room for.
+// file, the kind of question, two numbers, levels, an expression and the number of bytes of output to lend; the file, the levels and the
+// expression each after its length. All numbers are of three bytes, most significant first. For each it prints the reply and a checksum of the
+// whole card memory, lent or not; of an expansion also one of the whole output. Ends where the input does, or at a number that is more than
+// there is room for.
 ghost use Prim.Native.Nat.{_≤_, _<_};
 ghost use lib.ListN.{length};
 use asking::Asked;
+use expanding::Expanded;
 use libc::STDIN_FILENO;
 use libc::STDOUT_FILENO;
 use list_file::Input;
 use queries::AlikeReply;
 use queries::BodyReply;
+use queries::expansion;
 
 struct Room;
 
@@ -20,6 +23,8 @@ impl Room {
     const LEVELS: usize = 300;
     // More than a file may have: a query's expression has any length.
     const EXPRESSION: usize = 40000;
+    // More than the longest expansion takes.
+    const OUTPUT: usize = 66000;
 }
 
 fn wide(x: u8) -> usize
@@ -111,6 +116,13 @@ fn print_body(reply: BodyReply) {
     }
 }
 
+fn print_expanded(reply: Expanded) {
+    match reply {
+        Expanded::Length(size) => print_number(b"ok ", size as u64),
+        Expanded::Refused(c, p) => print_refusal(c, p),
+    }
+}
+
 // Asks in the memory lent, and prints the reply; the level query is kind 1, then come alike and body.
 fn ask(
     kind: usize,
@@ -158,7 +170,60 @@ fn ask_in(
     io::write_all(STDOUT_FILENO, b"\n")
 }
 
-// Reads the expression that ends a record, and asks; whether there was one.
+// Asks for the expansion over so many parameters, kind 4, in the first bytes of both memories, and prints the line.
+fn expand_in(
+    name: usize,
+    params: usize,
+    file: &[u8],
+    expr: &[u8],
+    memory: &mut [u8],
+    lent: usize,
+    out: &mut [u8],
+    room: usize,
+) -> bool
+    requires { ⌜ (lent ≤ length (now memory)) × (room ≤ length (now out)) ⌝ }
+{
+    mark(memory);
+    mark(out);
+    let reply = expansion::expand(
+        file,
+        &mut memory[..lent],
+        (name % 65536) as u16,
+        expr,
+        (params % 256) as u8,
+        &mut out[..room],
+    );
+    print_expanded(reply);
+    print_number(b"", checksum(memory) as u64);
+    io::print_decimal(STDOUT_FILENO, checksum(out) as u64);
+    io::write_all(STDOUT_FILENO, b"\n")
+}
+
+// Reads the output's length, which ends a record, and asks; whether there was one.
+fn ask_into(
+    kind: usize,
+    first: usize,
+    second: usize,
+    file: &[u8],
+    levels: &[u8],
+    expr: &[u8],
+    memory: &mut [u8],
+    lent: usize,
+    out: &mut [u8],
+) -> bool
+    requires { ⌜ (first ≤ 16777215) × (second ≤ 16777215) × (lent ≤ length (now memory)) ⌝ }
+{
+    let room = next_number();
+    if out.len() < room {
+        return false;
+    }
+    if kind == 4 {
+        return expand_in(first, second, file, expr, memory, lent, out, room);
+    }
+    ask_in(kind, first, second, file, levels, expr, memory, lent)
+}
+
+// Reads a record from its expression on, and asks; whether there was one.
 fn ask_expression(
     kind: usize,
     first: usize,
@@ -168,6 +233,7 @@ fn ask_expression(
     expr: &mut [u8],
     memory: &mut [u8],
     lent: usize,
+    out: &mut [u8],
 ) -> bool
     requires { ⌜ (first ≤ 16777215) × (second ≤ 16777215) × (lent ≤ length (now memory)) ⌝ }
 {
@@ -175,7 +241,7 @@ fn ask_expression(
     if expr.len() < size {
         return false;
     }
-    ask_in(
+    ask_into(
         kind,
         first,
         second,
@@ -184,11 +250,19 @@ fn ask_expression(
         &expr[..size],
         memory,
         lent,
+        out,
     )
 }
 
 // Reads a record after its file, and asks; whether there was one.
-fn ask_of(file: &[u8], levels: &mut [u8], expr: &mut [u8], memory: &mut [u8], lent: usize) -> bool
+fn ask_of(
+    file: &[u8],
+    levels: &mut [u8],
+    expr: &mut [u8],
+    memory: &mut [u8],
+    lent: usize,
+    out: &mut [u8],
+) -> bool
     requires { ⌜ lent ≤ length (now memory) ⌝ }
 {
     let kind = next_number();
@@ -207,11 +281,18 @@ fn ask_of(file: &[u8], levels: &mut [u8], expr: &mut [u8], memory: &mut [u8], le
         expr,
         memory,
         lent,
+        out,
     )
 }
 
 // Reads one record and asks; whether there was one.
-fn ask_next(file: &mut [u8], levels: &mut [u8], expr: &mut [u8], memory: &mut [u8]) -> bool {
+fn ask_next(
+    file: &mut [u8],
+    levels: &mut [u8],
+    expr: &mut [u8],
+    memory: &mut [u8],
+    out: &mut [u8],
+) -> bool {
     let lent = next_number();
     if memory.len() < lent {
         return false;
@@ -220,13 +301,13 @@ fn ask_next(file: &mut [u8], levels: &mut [u8], expr: &mut [u8], memory: &mut [u
     if file.len() < size {
         return false;
     }
-    ask_of(&file[..size], levels, expr, memory, lent)
+    ask_of(&file[..size], levels, expr, memory, lent, out)
 }
 
 // A proved loop has to end, and nothing says that the input does: the turns are counted down from a number that no run uses up.
-fn ask_all(file: &mut [u8], levels: &mut [u8], expr: &mut [u8], memory: &mut [u8]) {
+fn ask_all(file: &mut [u8], levels: &mut [u8], expr: &mut [u8], memory: &mut [u8], out: &mut [u8]) {
     let mut turns = u64::MAX;
-    while turns > 0 && ask_next(file, levels, expr, memory) {
+    while turns > 0 && ask_next(file, levels, expr, memory, out) {
         turns -= 1;
     }
 }
@@ -236,5 +317,6 @@ fn main() {
     let mut levels = [0u8; Room::LEVELS];
     let mut expr = [0u8; Room::EXPRESSION];
     let mut memory = [0u8; Room::MEMORY];
-    ask_all(&mut file, &mut levels, &mut expr, &mut memory);
+    let mut out = [0u8; Room::OUTPUT];
+    ask_all(&mut file, &mut levels, &mut expr, &mut memory, &mut out);
 }

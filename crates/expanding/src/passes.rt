@@ -7,7 +7,7 @@ ghost use Rattle.limits.specs.Limits.{maxDefinitions};
 ghost use Rattle.context.specs.Store.{store};
 ghost use Rattle.templates.specs.Taking.{workBytes};
 ghost use Rattle.expanding.specs.Held.{CallsReplaced, Expands};
-use rewriting::rewrite;
+use replacing::rewrite;
 use strings::Filled;
 use strings::highest_call;
 use templates::making::template;

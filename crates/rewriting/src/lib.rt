@@ -43,7 +43,8 @@ fn lesser(a: usize, b: usize) -> usize
     if a < b { a } else { b }
 }
 
-fn is_call(g: strings::Sign, n: u16) -> bool
+// Whether a symbol is a call of n.
+pub fn is_call(g: strings::Sign, n: u16) -> bool
     ensures { λ r. ⌜ r ≡ calls (eqb n) (symbolOf g) ⌝ }
 {
     match g {

@@ -96,7 +96,7 @@ fn less(x: usize) -> usize
 }
 
 // How many brackets are open after it.
-fn opened(c: usize, g: Sign) -> usize
+pub fn opened(c: usize, g: Sign) -> usize
     requires { ⌜ c < 2 ^ 63 + 8 ⌝ }
     ensures { λ r. ⌜ (r ≡ after c (symbolOf g)) × (r ≤ c + 1) ⌝ }
 {
@@ -112,7 +112,7 @@ fn opened(c: usize, g: Sign) -> usize
     }
 }
 
-fn done(left: usize, c: usize) -> bool
+pub fn done(left: usize, c: usize) -> bool
     ensures { λ r. ⌜ r ≡ eqb left 0 && eqb c 0 ⌝ }
 {
     if left == 0 { c == 0 } else { false }
@@ -149,7 +149,7 @@ fn code_wants(arities: &[u8], code: u8) -> usize
 }
 
 // How many terms are wanted after a symbol. The column of argument counts is `arities`.
-fn left_after(left: usize, g: Sign, shapes: &[u8], arities: &[u8]) -> usize
+pub fn left_after(left: usize, g: Sign, shapes: &[u8], arities: &[u8]) -> usize
     requires { ⌜ (left < 2 ^ 63) × (now arities ≡ arityColumn) ⌝ }
     ensures { λ r. ⌜ (r ≡ leftAfter (shapeIn (now (shapes .entry))) left (symbolOf g)) × (r ≤ left + 255) ⌝ }
 {
@@ -346,7 +346,7 @@ pub fn put_moved(s: &[u8], from: usize, to: usize, b: usize, out: &mut [u8], at:
 }
 
 // One symbol as it is, written from q on, if there is room.
-fn put_one(g: Sign, out: &mut [u8], q: usize) -> Filled
+pub fn put_one(g: Sign, out: &mut [u8], q: usize) -> Filled
     requires { ⌜ (q ≤ length (now out)) × (isWide (symbolOf g) ≡ false) × (isFar (symbolOf g) ≡ false) ⌝ }
     ensures { λ r. ⌜ Laid (symbolOf g ∷ []) q (now (out .entry)) (now (out .exit)) r ⌝ }
 {

@@ -5,7 +5,7 @@ use crate::shaping::prepare;
 use callees::strings::own_string;
 use callees::strings::standin_string;
 use limits::Limits;
-use rewriting::rewrite;
+use replacing::rewrite;
 use strings::Filled;
 use strings::Sign;
 use strings::symbol_at;

@@ -5,6 +5,7 @@ use differential::checker_named;
 use differential::faulty::FAULTS;
 use differential::runner::{offer, run, Options, DEFAULT_FILES, DEFAULT_SEED};
 use std::process::ExitCode;
+use std::time::Instant;
 
 const USAGE: &str = "differential [--files N] [--seed S] [--left CHECKER] [--right CHECKER] \
                      [--queries]";
@@ -69,12 +70,14 @@ fn compare() -> Result<bool, String> {
     }
     let (files, seed) = (options.files, options.seed);
     println!("{} and {}, seed {seed}", left.name(), right.name());
+    let start = Instant::now();
     let report = run(&*left, &*right, options);
     if let Some(difference) = &report.difference {
         print!("{difference}");
         return Ok(false);
     }
     print!("{report}");
+    println!("in {} s", start.elapsed().as_secs());
     let missing = report.coverage.missing(asked);
     for what in &missing {
         println!("MISSING {what}");

@@ -6,11 +6,11 @@ use Rattle.asks.proofs.ask_all.Statement.{statement}
 use Rattle.asks.proofs.ask_all.Tie as tie
 
 abbrev Inv-loop : tie.InvT-loop
-Inv-loop file₀ levels₀ expr₀ memory₀ turns₀ file levels expr memory turns =
-    (length file ≡ length file₀) × (length levels ≡ length levels₀) × (length expr ≡ length expr₀) × (length memory ≡ length memory₀)
+Inv-loop file₀ levels₀ expr₀ memory₀ out₀ turns₀ file levels expr memory out turns =
+    (length file ≡ length file₀) × (length levels ≡ length levels₀) × (length expr ≡ length expr₀) × (length memory ≡ length memory₀) × (length out ≡ length out₀)
 
 abbrev μ-loop : tie.MeasureT-loop
-μ-loop file₀ levels₀ expr₀ memory₀ turns₀ file levels expr memory turns = turns
+μ-loop file₀ levels₀ expr₀ memory₀ out₀ turns₀ file levels expr memory out turns = turns
 
 loop-holds : tie.Need-loop-holds Inv-loop μ-loop
 loop-holds c = search needs
@@ -39,11 +39,11 @@ same-length-3 c = search needs
 same-length-4 : tie.Need-same-length-4 Inv-loop μ-loop
 same-length-4 c = search needs
 
-returns : tie.Need-returns Inv-loop μ-loop
-returns c = search needs
-
 same-length-5 : tie.Need-same-length-5 Inv-loop μ-loop
 same-length-5 c = search needs
+
+returns : tie.Need-returns Inv-loop μ-loop
+returns c = search needs
 
 same-length-6 : tie.Need-same-length-6 Inv-loop μ-loop
 same-length-6 c = search needs
@@ -53,6 +53,12 @@ same-length-7 c = search needs
 
 same-length-8 : tie.Need-same-length-8 Inv-loop μ-loop
 same-length-8 c = search needs
+
+same-length-9 : tie.Need-same-length-9 Inv-loop μ-loop
+same-length-9 c = search needs
+
+same-length-10 : tie.Need-same-length-10 Inv-loop μ-loop
+same-length-10 c = search needs
 
 returns-2 : tie.Need-returns-2 Inv-loop μ-loop
 returns-2 c = search needs
@@ -72,9 +78,11 @@ ask-all-spec =
     same-length-2
     same-length-3
     same-length-4
-    returns
     same-length-5
+    returns
     same-length-6
     same-length-7
     same-length-8
+    same-length-9
+    same-length-10
     returns-2)

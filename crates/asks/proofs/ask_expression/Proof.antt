@@ -14,21 +14,24 @@ same-length c = search needs
 returns : tie.Need-returns
 returns c = search needs
 
-slice-reshare-prefix-ask-in : tie.Need-slice-reshare-prefix-ask-in
-slice-reshare-prefix-ask-in c = search needs
+slice-reshare-prefix-ask-into : tie.Need-slice-reshare-prefix-ask-into
+slice-reshare-prefix-ask-into c = search needs
 
-slice-aggregate-ask-in : tie.Need-slice-aggregate-ask-in
-slice-aggregate-ask-in c =
+slice-aggregate-ask-into : tie.Need-slice-aggregate-ask-into
+slice-aggregate-ask-into c =
     sym (length-take-le (c .before .before .before .before .read-part .result) (c .before .before .before .before .read-part .last .0) (search needs))
 
-ask-in-requires : tie.Need-ask-in-requires
-ask-in-requires c κs = search needs
+ask-into-requires : tie.Need-ask-into-requires
+ask-into-requires c κs = search needs
 
 same-length-2 : tie.Need-same-length-2
 same-length-2 c = search needs
 
 same-length-3 : tie.Need-same-length-3
 same-length-3 c = search needs
+
+same-length-4 : tie.Need-same-length-4
+same-length-4 c = search needs
 
 returns-2 : tie.Need-returns-2
 returns-2 c = search needs
@@ -40,9 +43,10 @@ ask-expression-spec =
     read-part-requires
     same-length
     returns
-    slice-reshare-prefix-ask-in
-    slice-aggregate-ask-in
-    ask-in-requires
+    slice-reshare-prefix-ask-into
+    slice-aggregate-ask-into
+    ask-into-requires
     same-length-2
     same-length-3
+    same-length-4
     returns-2)

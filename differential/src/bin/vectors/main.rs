@@ -3,9 +3,11 @@
 //! `vectors listings SAMPLES FOLDER`: files one after another, each after its length, and the
 //! listing that the reference gives of each. `vectors checks SAMPLES FOLDER`: the same files after
 //! the number of bytes of card memory that are lent, and the reference's reply with a sum over all
-//! of that memory. `vectors queries SAMPLES FOLDER`: the same with a query after each file.
+//! of that memory. `vectors queries SAMPLES FOLDER`: the same with a query after each file, and of an
+//! expansion a sum over all of the output too.
 //! Numbers are three bytes, most significant first. The file `index` names them.
 
+mod expansions;
 mod queries;
 
 use differential::checker::refusal;
@@ -196,31 +198,35 @@ fn three(number: usize) -> [u8; 3] {
 /// The memory that a check is lent a part of, and how much of it, in turn: at the limit, above it,
 /// and now and then below it.
 const MEMORY: usize = 40_000;
+/// The output that an expansion is lent a part of: more than the longest takes.
+const OUTPUT: usize = 66_000;
 const LENT: [usize; 11] = [
     32_000, 40_000, 32_001, 32_000, 40_000, 31_999, 32_000, 32_001, 40_000, 32_000, 0,
 ];
 
-/// The memory before a call: no byte is 0 or a level, and none is as the byte beside it.
-fn marked() -> Vec<u8> {
-    (0..MEMORY).map(|at| 128 + (at % 64) as u8).collect()
+/// So much memory before a call: no byte is 0 or a level, and none is as the byte beside it.
+fn marked(bytes: usize) -> Vec<u8> {
+    (0..bytes).map(|at| 128 + (at % 64) as u8).collect()
 }
 
-/// A value or a refusal, and a sum over all the memory.
-fn reply_line(refusal: Option<(u32, u32)>, value: &str, memory: &[u8]) -> String {
-    let sum = memory
-        .iter()
-        .fold(0u32, |sum, &byte| (sum * 31 + byte as u32) % 65_521);
-    match refusal {
-        None => format!("ok {value} {sum}\n"),
-        Some((number, place)) => format!("refused {number} {place} {sum}\n"),
+/// A value or a refusal, and a sum over each memory.
+fn reply_line(refusal: Option<(u32, u32)>, value: &str, memories: &[&[u8]]) -> String {
+    let mut line = match refusal {
+        None => format!("ok {value}"),
+        Some((number, place)) => format!("refused {number} {place}"),
+    };
+    for memory in memories {
+        let sum = |sum: u32, &byte: &u8| (sum * 31 + u32::from(byte)) % 65_521;
+        write!(line, " {}", memory.iter().fold(0, sum)).expect("a string");
     }
+    line + "\n"
 }
 
 /// The reply to a check with so many bytes of memory lent.
 fn check_line(file: &[u8], lent: usize) -> String {
-    let mut memory = marked();
+    let mut memory = marked(MEMORY);
     let reply = packed_check(file, &mut memory[..lent]);
-    reply_line(refusal(reply), &reply.to_string(), &memory)
+    reply_line(refusal(reply), &reply.to_string(), &[&memory])
 }
 
 /// What the gate's program reads and prints, and an index of it.

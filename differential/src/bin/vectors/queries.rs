@@ -1,9 +1,9 @@
 //! Queries for the gate: the trial lines of paper 01, both sides of every rule about a query, the
 //! samples, and generated ones of every kind of answer.
 
-use crate::{module, reply_line, sample_files, three, MEMORY};
+use crate::{expansions, marked, module, reply_line, sample_files, three, MEMORY, OUTPUT};
 use differential::cases::{Call, Case};
-use differential::checker::{Offer, Reference};
+use differential::checker::Reference;
 use differential::model::Model;
 use differential::random::Random;
 use differential::syntax::{
@@ -25,7 +25,7 @@ pub struct Query {
 
 impl Query {
     /// The bytes that the gate's program reads after the file: kind, two numbers, levels and
-    /// expression, each of these after its length. Kind 4 is kept for the expansion.
+    /// expression, each of these after its length, and the length of the output.
     pub fn bytes(&self) -> Vec<u8> {
         let (kind, first, second, levels, expr) = match &self.call {
             Call::Level {
@@ -35,7 +35,19 @@ impl Query {
             } => (1, u32::from(*module), 0, &levels[..], &expr[..]),
             Call::Alike { a, b } => (2, *a, *b, &[][..], &[][..]),
             Call::Body { d } => (3, *d, 0, &[][..], &[][..]),
-            Call::Check | Call::Expand { .. } => unreachable!("kept out"),
+            Call::Expand {
+                module,
+                expr,
+                params,
+                ..
+            } => (
+                4,
+                u32::from(*module),
+                u32::from(*params),
+                &[][..],
+                &expr[..],
+            ),
+            Call::Check => unreachable!("kept out"),
         };
         let mut bytes = Vec::new();
         for number in [kind, first, second] {
@@ -45,7 +57,16 @@ impl Query {
             bytes.extend(three(part.len()));
             bytes.extend(part);
         }
+        bytes.extend(three(self.room()));
         bytes
+    }
+
+    /// Bytes of output that are lent.
+    fn room(&self) -> usize {
+        match self.call {
+            Call::Expand { room, .. } => room,
+            _ => 0,
+        }
     }
 
     /// The query in a few words.
@@ -58,12 +79,12 @@ impl Query {
         words
     }
 
-    /// The reference's answer, with a sum over all the memory.
+    /// The reference's answer, with a sum over all the card memory, and of an expansion over all the
+    /// output.
     pub fn answer(&self) -> String {
-        let mut memory = crate::marked();
-        let reply = self
-            .call
-            .make(&Reference, &self.file, &mut memory[..self.lent], &mut []);
+        let (mut memory, mut output) = (marked(MEMORY), marked(OUTPUT));
+        let (cards, out) = (&mut memory[..self.lent], &mut output[..self.room()]);
+        let reply = self.call.make(&Reference, &self.file, cards, out);
         let case = Case::new(&self.file, self.call.clone());
         let outcome = differential::cases::Outcome {
             reply,
@@ -74,12 +95,16 @@ impl Query {
             Call::Body { .. } => format!("{} {}", reply >> 16, reply & 0xFFFF),
             _ => reply.to_string(),
         };
-        reply_line(case.refusal(&outcome), &value, &memory)
+        let lent = match self.call {
+            Call::Expand { .. } => vec![&memory[..], &output],
+            _ => vec![&memory[..]],
+        };
+        reply_line(case.refusal(&outcome), &value, &lent)
     }
 }
 
 /// Names of the file that the trial lines are asked of.
-mod name {
+pub mod name {
     pub const X: u16 = 1;
     pub const Y: u16 = 2;
     pub const C: u16 = 3;
@@ -93,10 +118,10 @@ mod name {
 }
 
 /// Modules of that file: the lines' own, N, one that brings N's definition, and one beside them.
-const LINES: u16 = 1;
-const N: u16 = 2;
-const BRINGS: u16 = 3;
-const BESIDE: u16 = 4;
+pub const LINES: u16 = 1;
+pub const N: u16 = 2;
+pub const BRINGS: u16 = 3;
+pub const BESIDE: u16 = 4;
 
 fn module_n() -> Vec<Field> {
     let u = || n(name::U, &[]);
@@ -110,7 +135,7 @@ fn module_n() -> Vec<Field> {
     ]
 }
 
-fn trial_file() -> Vec<Field> {
+pub fn trial_file() -> Vec<Field> {
     let mut fields = vec![
         Field::Module(LINES),
         Field::Variable(name::X),
@@ -390,7 +415,7 @@ fn bodies() -> Vec<(String, Vec<u8>, Call)> {
 }
 
 /// Queries of files that are refused: the file comes first.
-fn refused_files() -> Vec<(&'static str, Vec<u8>, Call)> {
+pub fn refused_files() -> Vec<(&'static str, Vec<u8>, Call)> {
     let mut first = module_n();
     first.extend([
         Field::Module(BRINGS),
@@ -424,8 +449,9 @@ fn refused_files() -> Vec<(&'static str, Vec<u8>, Call)> {
 
 /// Memory lent for generated queries, in turn.
 const LENT: [usize; 3] = [32_000, 40_000, 32_001];
-/// At most so many generated queries of one kind of answer.
+/// At most so many generated queries of one kind of answer, and of expansions that show little.
 const EACH: usize = 12;
+const FEW: usize = 2;
 /// Files larger than this are left to the comparison.
 const SMALL: usize = 600;
 
@@ -458,9 +484,10 @@ fn generated() -> Vec<Query> {
                 Call::Alike { a, b } => a.max(b) >= 1 << 24,
                 Call::Body { d } => d >= 1 << 24,
                 Call::Level { ref expr, .. } => expr.len() > 400,
-                _ => true,
+                Call::Expand { ref expr, room, .. } => expr.len() > 400 || room > OUTPUT,
+                Call::Check => true,
             };
-            if beyond || call.wants() > Offer::Queries {
+            if beyond {
                 continue;
             }
             let case = Case::new(&file, call.clone());
@@ -470,12 +497,22 @@ fn generated() -> Vec<Query> {
                 (Call::Level { .. }, Some((cause, _))) => format!("level refused {cause}"),
                 (Call::Alike { .. }, None) => format!("alike {}", outcome.reply),
                 (Call::Alike { .. }, _) => "alike refused".into(),
+                (Call::Expand { expr, .. }, None) if outcome.out.starts_with(expr) => {
+                    "expand, no call".into()
+                }
+                (Call::Expand { .. }, None) => "expand".into(),
+                (Call::Expand { .. }, Some((cause, _))) => format!("expand refused {cause}"),
                 (_, None) => query.label.unwrap_or("body").into(),
                 _ => "body refused".into(),
             };
             let count = kinds.entry(what.clone()).or_default();
             *count += 1;
-            if *count <= EACH {
+            let most = match what.strip_prefix("expand") {
+                Some(" refused 18") => 2 * FEW,
+                None | Some("") => EACH,
+                Some(_) => FEW,
+            };
+            if *count <= most {
                 all.push(Query {
                     label: format!("generated, {what}, {count}"),
                     file,
@@ -574,6 +611,7 @@ pub fn all(samples: &Path) -> io::Result<Vec<Query>> {
     for (label, file, call) in refused_files() {
         add(label.into(), &file, call, 40_000);
     }
+    all.extend(expansions::all());
     all.extend(of_samples(samples)?);
     all.extend(generated());
     Ok(all)

@@ -24,7 +24,7 @@ same-length-3 c = search needs
 
 returns : tie.Need-returns
 returns c =
-    let rewritten = c .before .before .before .before in
+    let rewritten = c .before .before .before .before .before .before in
     let fitting = rewritten .before .before .before .before in
     let made = fitting .before .before .before .before .before in
     step-rewritten _ _ _ _ _ _ _ _ _ _ _ (made .template .ensures) (fitting .if1 .taken) _ _ (made .before .before .before .before .before .before .before .before .before .before .before .before .before .before .before .pre .2)

@@ -1,5 +1,7 @@
 //! Times one or two level checkers on realistic files and on hostile families.
 
+mod limited;
+
 use differential::cases::Case;
 use differential::checker::Checker;
 use differential::checker_named;
@@ -8,13 +10,20 @@ use std::iter;
 use std::process::ExitCode;
 use std::time::{Duration, Instant};
 
-const USAGE: &str = "bench [--left CHECKER] [--right CHECKER] [--rounds N] [--large]";
+const USAGE: &str = "bench [--left CHECKER] [--right CHECKER] [--rounds N] [--large] [--only LABEL]
+       bench --limit SECONDS [--left CHECKER] [--only LABEL]";
 
 struct Arguments {
     left: String,
     right: Option<String>,
     rounds: usize,
     large: bool,
+    /// What the labels begin with.
+    only: String,
+    /// One checker, all families, each call given up after so many seconds.
+    limit: Option<Duration>,
+    /// How many families come first, which another process has seen to.
+    after: Option<usize>,
 }
 
 fn arguments() -> Result<Arguments, String> {
@@ -23,6 +32,9 @@ fn arguments() -> Result<Arguments, String> {
         right: cfg!(feature = "proved").then(|| "proved".into()),
         rounds: 5,
         large: false,
+        only: String::new(),
+        limit: None,
+        after: None,
     };
     let mut given = std::env::args().skip(1);
     while let Some(option) = given.next() {
@@ -31,13 +43,17 @@ fn arguments() -> Result<Arguments, String> {
             continue;
         }
         let value = given.next().ok_or(format!("{option} needs a value"))?;
+        let number = || {
+            let number = value.parse::<usize>();
+            number.map_err(|_| format!("{value} is not a number"))
+        };
         match option.as_str() {
+            "--rounds" => parsed.rounds = number()?,
+            "--limit" => parsed.limit = Some(Duration::from_secs(number()? as u64)),
+            "--after" => parsed.after = Some(number()?),
             "--left" => parsed.left = value,
             "--right" => parsed.right = Some(value),
-            "--rounds" => {
-                let rounds = value.parse();
-                parsed.rounds = rounds.map_err(|_| format!("{value} is not a number"))?;
-            }
+            "--only" => parsed.only = value,
             _ => return Err(format!("no option is named {option}")),
         }
     }
@@ -59,8 +75,16 @@ fn best(checker: &dyn Checker, family: &Family, rounds: usize, memory: &mut Memo
     best
 }
 
-fn run() -> Result<(), String> {
-    let given = arguments()?;
+/// The families whose labels begin so.
+fn families(only: &str, large: bool) -> Vec<Family> {
+    let mut all = families::usual();
+    all.extend(families::checks());
+    all.extend(families::queries(large));
+    all.retain(|family| family.label.starts_with(only));
+    all
+}
+
+fn compare(given: &Arguments) -> Result<(), String> {
     let left = checker_named(&given.left)?;
     let right = given.right.as_deref().map(checker_named).transpose()?;
     let mut memory = Memory::default();
@@ -73,17 +97,13 @@ fn run() -> Result<(), String> {
         None => println!(),
     }
     let milliseconds = |time: Duration| time.as_secs_f64() * 1e3;
-    let families = [
-        families::usual(),
-        families::checks(),
-        families::queries(given.large),
-    ];
+    let families = families(&given.only, given.large);
     // Queries only where both sides answer them.
     let answered = |family: &&Family| {
         let mut sides = iter::once(&left).chain(&right);
         sides.all(|side| family.is_answered_by(&**side))
     };
-    for family in families.iter().flatten().filter(answered) {
+    for family in families.iter().filter(answered) {
         let case = Case::new(&family.file, family.call.clone());
         let reply = case.reply(&case.run(&*left));
         let time = best(&*left, family, given.rounds, &mut memory);
@@ -103,9 +123,28 @@ fn run() -> Result<(), String> {
     Ok(())
 }
 
+/// Whether all went well.
+fn run() -> Result<bool, String> {
+    let given = arguments()?;
+    let said = |error: std::io::Error| error.to_string();
+    match (given.limit, given.after) {
+        (None, _) => compare(&given).map(|()| true),
+        (Some(limit), None) => limited::table(limit).map_err(said),
+        (_, Some(after)) => {
+            let checker = checker_named(&given.left)?;
+            let mut families = families(&given.only, true);
+            families.retain(|family| family.is_answered_by(&*checker));
+            let rest = families.get(after..).unwrap_or_default();
+            limited::make(&*checker, rest).map_err(said)?;
+            Ok(true)
+        }
+    }
+}
+
 fn main() -> ExitCode {
     match run() {
-        Ok(()) => ExitCode::SUCCESS,
+        Ok(true) => ExitCode::SUCCESS,
+        Ok(false) => ExitCode::FAILURE,
         Err(error) => {
             eprintln!("{error}\nusage: {USAGE}");
             ExitCode::FAILURE

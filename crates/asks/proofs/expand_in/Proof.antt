@@ -1,0 +1,94 @@
+-- `expand_in`: what is lent is within the memories.
+use lib.Seq.{length-take-le}
+use mathlib.Core.Path.{sym}
+use native.Mathlib.Omega.{arith}
+use borrow.Author.Needs.{needs}
+use Rattle.asks.proofs.expand_in.Statement.{statement}
+use Rattle.asks.proofs.expand_in.Tie as tie
+
+mark-requires : tie.Need-mark-requires
+mark-requires c κs = search needs
+
+mark-requires-2 : tie.Need-mark-requires-2
+mark-requires-2 c κs = search needs
+
+slice-relend-prefix-expand : tie.Need-slice-relend-prefix-expand
+slice-relend-prefix-expand c = search needs
+
+slice-aggregate-expand : tie.Need-slice-aggregate-expand
+slice-aggregate-expand c =
+    sym (length-take-le (c .before .before .before .before .before .before .before .before .before .before .before .before .before .args .lent) (c .before .before .before .before .before .before .before .mark .last .0) (omega (arith, c .before .before .before .before .before .before .before .mark .kept)))
+
+cast-expand : tie.Need-cast-expand
+cast-expand c = search needs
+
+cast-expand-2 : tie.Need-cast-expand-2
+cast-expand-2 c = search needs
+
+slice-relend-prefix-expand-2 : tie.Need-slice-relend-prefix-expand-2
+slice-relend-prefix-expand-2 c = search needs
+
+slice-aggregate-expand-2 : tie.Need-slice-aggregate-expand-2
+slice-aggregate-expand-2 c =
+    sym (length-take-le (c .before .before .before .before .before .before .before .before .before .before .before .before .before .before .args .room) (c .before .before .before .before .mark2 .last .0) (omega (arith, c .before .before .before .before .mark2 .kept)))
+
+expand-requires : tie.Need-expand-requires
+expand-requires c κs = search needs
+
+print-expanded-requires : tie.Need-print-expanded-requires
+print-expanded-requires c κs = search needs
+
+slice-aggregate-print-number : tie.Need-slice-aggregate-print-number
+slice-aggregate-print-number c = search needs
+
+checksum-requires : tie.Need-checksum-requires
+checksum-requires c κs = search needs
+
+print-number-requires : tie.Need-print-number-requires
+print-number-requires c κs = search needs
+
+checksum-requires-2 : tie.Need-checksum-requires-2
+checksum-requires-2 c κs = search needs
+
+print-decimal-requires : tie.Need-print-decimal-requires
+print-decimal-requires c κs = search needs
+
+slice-aggregate-write-all : tie.Need-slice-aggregate-write-all
+slice-aggregate-write-all c = search needs
+
+write-all-requires : tie.Need-write-all-requires
+write-all-requires c κs = search needs
+
+same-length : tie.Need-same-length
+same-length c = search needs
+
+same-length-2 : tie.Need-same-length-2
+same-length-2 c = search needs
+
+returns : tie.Need-returns
+returns c = search needs
+
+pub expand-in-spec : {M : Type 1} → statement M
+expand-in-spec =
+    tie.close
+    (tie.spec
+    mark-requires
+    mark-requires-2
+    slice-relend-prefix-expand
+    slice-aggregate-expand
+    cast-expand
+    cast-expand-2
+    slice-relend-prefix-expand-2
+    slice-aggregate-expand-2
+    expand-requires
+    print-expanded-requires
+    slice-aggregate-print-number
+    checksum-requires
+    print-number-requires
+    checksum-requires-2
+    print-decimal-requires
+    slice-aggregate-write-all
+    write-all-requires
+    same-length
+    same-length-2
+    returns)

@@ -1,0 +1,4 @@
+pub mod Tasks
+pub mod Starting
+pub mod Running
+pub mod Rounding

@@ -1,0 +1,4 @@
+pub mod Course
+pub mod Step
+pub mod Here
+pub mod Inside
