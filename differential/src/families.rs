@@ -399,10 +399,6 @@ fn full_tables() -> (Vec<u8>, u16) {
     (syntax::file(&fields), 5_255)
 }
 
-/// Whether `queries` has the expansions in which calls nest deep even where it is not to be large: they
-/// take the archive minutes as yet (docs/landings/07-expansion.md, "Open").
-const NESTING_DEEP: bool = false;
-
 /// The families that are slow to answer if they are answered badly. `large` adds queries of 16 to
 /// 64 MB.
 pub fn queries(large: bool) -> Vec<Family> {
@@ -411,9 +407,7 @@ pub fn queries(large: bool) -> Vec<Family> {
     let mut all = towers();
     all.extend(brought_queries());
     all.extend(expansions::all(large));
-    if large || NESTING_DEEP {
-        all.extend(nesting::all());
-    }
+    all.extend(nesting::all());
     all.extend([
         family(
             "i: identity tower",

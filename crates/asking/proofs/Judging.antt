@@ -23,7 +23,7 @@ use Rattle.rules.specs.State.{Context, Entry, State, broughtNamed, declares, de
 use Rattle.laws.proofs.Expressions.{expression-back}
 use Rattle.laws.proofs.Invariant.{clear-in}
 use Rattle.tokens.specs.Expr.{Expr, Exprs, Found, exprAt, found}
-use Rattle.tokens.specs.Fold.{fold}
+use Rattle.tokens.specs.Fold.{Worth, fold}
 use Rattle.tokens.specs.Limit.{countsKept, keptOf, limitAt}
 use Rattle.tokens.specs.Token.{isToken, tokenAt}
 use Rattle.tokens.specs.declared.Limit.the-variants.{Kept, Passed}
@@ -41,8 +41,7 @@ use Rattle.agree.proofs.Walks.{tokens-found}
 use Rattle.texts.specs.Noted.{noted}
 use Rattle.texts.specs.Text.{Declarations, levels, noDeclaration, refHead}
 use Rattle.texts.proofs.Spans.{Span, SpanOf, span-found}
-use Rattle.forms.specs.declared.Form.{Form}
-use Rattle.forms.specs.Forms.{levelAt, width}
+use Rattle.forms.specs.Forms.{width}
 use Rattle.context.specs.Holds.{moduleNo}
 use Rattle.context.specs.Store.{Store, codesOf}
 use Rattle.context.specs.declared.Counts.{Counts}
@@ -61,7 +60,7 @@ use Rattle.worlds.specs.Rows.{Row}
 use Rattle.judge_plain.specs.declared.Phase.{Phase}
 use Rattle.standing.specs.Standing.{Standing, itselves}
 use Rattle.asking.specs.Asks.{NamesAsked, isPassed}
-use Rattle.asking.specs.Walk.{AskedForm}
+use Rattle.asking.specs.Walk.{askedLevels}
 use Rattle.asking.proofs.Noting.{Low, Reads, level-asked, noted-reads, reads-below}
 
 -- past its end a list has the default
@@ -227,11 +226,12 @@ module _ (file : List ℕ) (fs : List Field) (s : State) (rs : List Row) (v : St
         clear-in s Γ n e (stands .good .sound) (known-context s q (omega (arith, stands .holds .modules)) (stands .good)) (expression-back expr e spelt .0)
         (sym (asked-right .cause-9) ∙ known) (sym (asked-right .cause-10) ∙ counted-right)
 
-    -- the walk's form gives the level by the rules
-    pub asked-level : (f : Form) → AskedForm (v .names) (v .facts) (codesOf v q) words expr f → (ls : List ℕ) → length ls ≡ n → n ≤ maxArity → All IsLevel ls
-        → levelAt f ls ≡ levelOf s ls (resolve s Γ e)
-    asked-level f form ls size few a =
-        form .level (tree .0) (0 + length expr) (tree .1) ls
+    -- the level token by token is the level by the rules
+    pub asked-level : (ls : List ℕ) (l x : ℕ) → Worth (askedLevels (v .names) (v .facts) (codesOf v q) (sceneOf itselves words) ls) 0 (exprAt maxNesting expr 0) l x
+        → length ls ≡ n → n ≤ maxArity → All IsLevel ls → l ≡ levelOf s ls (resolve s Γ e)
+    unfolding Worth
+    asked-level ls l x w size few a =
+        subst (λ (f : Found). Worth (askedLevels (v .names) (v .facts) (codesOf v q) (sceneOf itselves words) ls) 0 f l x) (tree .1) w .0
         ∙ level-asked (v .names) (v .facts) (codesOf v q) table′ (sceneOf itselves words) ls (tree .0) reads 0
         ∙ six-levels table′ itselves words 0 (omega arith) ls (tree .0) (subst CountedAt (tree .1) (counted maxNesting expr 0)) counts 0
         ∙ ap (λ (w : List ℕ). fold (levels table′ (sceneOf itselves words) 0 w) 0 (tree .0)) (take-all width ls (omega arith))

@@ -1,14 +1,15 @@
 -- A table that holds the number of each name of an expression: so read, the expression has the same level as with its names looked up where
 -- they stand.
 use mathlib.Core.Bool.{Bool, cond, false, true}
-use mathlib.Core.List.{List, _∷_}
+use mathlib.Core.List.{List, [], _∷_}
 use mathlib.Core.Path.{_∙_, _≡_, ap, ap₂, refl, sym}
 use Prim.Native.Nat.{ℕ, suc, _<_, _≤_}
 use native.Mathlib.Omega.{arith}
 use lib.ListN.{getD, length, length-set, set, take}
 use lib.Seq.{getD-set-same}
+use Rattle.limits.specs.Limits.{maxNesting}
 use Rattle.theory.specs.Tree.{node, ⟨⟩, _▹_}
-use Rattle.tokens.specs.Expr.{Expr, Exprs}
+use Rattle.tokens.specs.Expr.{Expr, Exprs, Found, exprAt, found, none}
 use Rattle.tokens.specs.Fold.{fold, folds, under}
 use Rattle.tokens.specs.declared.Token.{Token}
 use Rattle.tokens.specs.declared.Token.the-variants.{Parameter, Bound, Name, InstanceOperator, BuiltIn, Literal, NoToken}
@@ -16,11 +17,15 @@ use Rattle.texts.specs.Noted.{isName, note, noted, noteds}
 use Rattle.texts.specs.Text.{Scene, named, scope}
 use Rattle.texts.proofs.Noting.{AgreeFrom, noted-length, noteds-before}
 use Rattle.texts.proofs.Spans.{Span, Spans, span-rise, spans-rise}
-use Rattle.resolve.specs.Walk.{numberIn}
+use Rattle.resolve.specs.Walk.{Looks, Notes, miscountedIn, numberIn, unknownIn}
 use Rattle.levels.specs.Six.{sixLevel, sixLevels}
 use Rattle.text_levels.proofs.OwnWorld.{AllRefsBelow, RefsBelow}
+use Rattle.agree.specs.Folds.{searching}
 use Rattle.agree.specs.Trees.{AllTokens, AllTokensOf}
-use Rattle.asking.specs.Walk.{askedLevel, askedLevels}
+use Rattle.asking.specs.Asks.{NamesAsked, nameCause}
+use Rattle.asking.specs.Walk.{JudgedFirst, NamesJudged, askedLevel, askedLevels}
+use Rattle.asking.specs.declared.Walked.{Walked}
+use Rattle.asking.proofs.Keeping.{kept-worth}
 
 -- the table says of every name what `look` says
 abbrev mutual
@@ -85,6 +90,41 @@ mutual
   all-below : (ts : Exprs) (look : Token → ℕ) (m : ℕ) (refs : List ℕ) → ReadsAll look refs ts → AllTokensOf (Low look m) ts → AllRefsBelow m refs ts
   all-below ⟨⟩ look m refs a x = tt
   all-below (t ▹ ts) look m refs (a, b) (x, y) = (reads-below t look m refs a x, all-below ts look m refs b y)
+
+-- a table of no entries keeps none
+empty : (xs : List ℕ) → length xs ≡ 0 → [] ≡ xs
+empty [] e = refl
+empty (x ∷ xs) e = absurd (omega arith)
+
+notes-none : (names facts cs : List ℕ) (x : Found) → Notes names facts cs x [] []
+unfolding Notes
+notes-none names facts cs (found t e) = empty (noted (numberIn names facts cs) t []) (noted-length t (numberIn names facts cs) [])
+notes-none names facts cs none = refl
+
+-- a walk that keeps the limits answers causes 9 and 10
+pub names-asked : (names facts cs words v : List ℕ) (p : ℕ) (s : List ℕ) (w : Walked) → JudgedFirst names facts cs words v p s w → w .kept ≡ true
+    → (r : ℕ) → r ≡ nameCause (w .looked .unknown) (w .looked .miscounted) → NamesAsked names facts cs p (exprAt maxNesting s 0) r
+unfolding Looks
+names-asked names facts cs words v p s w h k r e = record {
+  table = [];
+  noted = [];
+  unknown = w .looked .unknown;
+  miscounted = w .looked .miscounted;
+  next = w .looked .next;
+  looks = (
+    kept-worth (searching (unknownIn names facts cs p)) 0 (exprAt maxNesting s 0) (w .kept) (w .looked .unknown) (w .looked .next) (h .unknown) k,
+    kept-worth (searching (miscountedIn names facts cs)) 0 (exprAt maxNesting s 0) (w .kept) (w .looked .miscounted) (w .looked .next) (h .miscounted) k,
+    notes-none names facts cs (exprAt maxNesting s 0),
+  );
+  cause = e;
+}
+
+pub names-only : (names facts cs words v : List ℕ) (p : ℕ) (s : List ℕ) (w : Walked) → JudgedFirst names facts cs words v p s w → NamesJudged names facts cs p s w
+names-only names facts cs words v p s w h = record { words = words; levels = v; judged = h }
+
+pub names-known : (names facts cs : List ℕ) (p : ℕ) (s : List ℕ) (w : Walked) (r : ℕ) → NamesJudged names facts cs p s w → w .kept ≡ true
+    → r ≡ nameCause (w .looked .unknown) (w .looked .miscounted) → NamesAsked names facts cs p (exprAt maxNesting s 0) r
+names-known names facts cs p s w r h k e = names-asked names facts cs (h .words) (h .levels) p s w (h .judged) k r e
 
 -- the level is the same either way
 module _ (names facts cs refs : List ℕ) (S : Scene) (v : List ℕ) where

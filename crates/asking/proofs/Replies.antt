@@ -1,9 +1,9 @@
 -- Each reply of the level query is the rules'.
 use borrow.Author.Tests.{leb-false, ltb-false}
-use mathlib.Core.Bool.{Bool, cond, false, true}
+use mathlib.Core.Bool.{Bool, cond, false, not, true}
 use mathlib.Core.List.{List, [], _∷_}
 use mathlib.Core.Option.{Option, none, some}
-use mathlib.Core.Path.{_∙_, _≡_, ap, ap₂, refl, sym}
+use mathlib.Core.Path.{_∙_, _≡_, ap, ap₂, refl, subst, sym}
 use Prim.Native.Nat.{ℕ, zero, suc, _<_, _≤_}
 use native.Mathlib.Omega.{arith}
 use lib.Dec.{leb, ltb}
@@ -20,11 +20,13 @@ use Rattle.rules.specs.Query.{orNoSuch, readIn, unlessCause}
 use Rattle.rules.specs.Run.{Outcome, andThen, refusal, result}
 use Rattle.rules.specs.State.{Module, State, levelOf, moduleNamed, noModule, resolve}
 use Rattle.tokens.specs.Expr.{exprAt, wholeOf}
-use Rattle.tokens.specs.Limit.{limitAt}
+use Rattle.tokens.specs.Fold.{Algebra, Worth}
+use Rattle.tokens.specs.Limit.{keptOf, limitAt}
+use Rattle.tokens.proofs.Nesting.{limited}
 use Rattle.tokens.proofs.Writing.{Bytes}
 use Rattle.agree.proofs.Expressions.{whole-agrees, whole-read}
-use Rattle.forms.specs.declared.Form.{Form}
-use Rattle.forms.specs.Forms.{levelAt, width}
+use Rattle.forms.specs.Forms.{width}
+use Rattle.levels.specs.Tables.{sceneOf}
 use Rattle.context.specs.Holds.{Holds, moduleNo}
 use Rattle.context.specs.Parts.{part, placeOf}
 use Rattle.context.specs.Store.{Store, contextCodes, store}
@@ -32,12 +34,15 @@ use Rattle.context.specs.declared.Counts.{Counts}
 use Rattle.context.proofs.Lookups.{module-law}
 use Rattle.worlds.specs.Rows.{Row}
 use Rattle.judge_plain.specs.declared.Phase.{Phase}
-use Rattle.standing.specs.Standing.{Standing}
-use Rattle.asking.specs.Asks.{Asks, AsksIn, NamesAsked, isPassed, nameCause, readingCause}
-use Rattle.asking.specs.Walk.{AskedForm}
+use Rattle.standing.specs.Standing.{Standing, itselves}
+use Rattle.asking.specs.Asks.{Asks, AsksIn, NamesAsked, earlyCause, isPassed, nameCause, readingCause, replyOf}
+use Rattle.asking.specs.Walk.{JudgedFirst, askedLevels}
+use Rattle.asking.specs.declared.Walked.{Walked}
 use Rattle.asking.specs.declared.Asked.{Asked}
 use Rattle.asking.specs.declared.Asked.the-variants.{Level, Refused}
 use Rattle.asking.proofs.Judging.{asked-level, asked-right, limit-law}
+use Rattle.asking.proofs.Keeping.{kept-passed, kept-worth}
+use Rattle.asking.proofs.Noting.{names-asked}
 
 -- the module at a place of those ended
 there : (ms : List Module) (i : ℕ) → i < length ms → getElem? ms i ≡ some (getD ms i noModule)
@@ -135,6 +140,31 @@ module _ (levels expr : List ℕ) (bytes : Bytes expr) where
       map-all (λ l. leb levelCount l ≡ false) IsLevel (λ l e. let k : l < levelCount = leb-false levelCount l e in omega arith) levels
       (any-false (λ l. leb levelCount l) levels h)
 
+-- what is known of causes 3 and 5 before the limits are
+abbrev early : Bool → Bool → Bool → ℕ → ℕ
+early a b d x = cond a (cond b 3 (cond d 5 x)) 3
+
+module _ (levels expr : List ℕ) where
+  early-none : earlyCause levels expr ≡ 0 → readingCause levels expr ≡ cond (isPassed (limitAt expr 0)) 5 0
+  unfolding earlyCause readingCause
+  early-none z = go (wholeOf expr) (any (λ l. leb levelCount l) levels) (ltb maxArity (length levels)) (cond (isPassed (limitAt expr 0)) 5 0) z
+    where
+      go : (a b d : Bool) (x : ℕ) → early a b d 0 ≡ 0 → early a b d x ≡ x
+      go false b d x h = absurd (omega arith)
+      go true true d x h = absurd (omega arith)
+      go true false true x h = absurd (omega arith)
+      go true false false x h = refl
+
+  early-some : (earlyCause levels expr ≡ 0 → ⊥) → readingCause levels expr ≡ earlyCause levels expr
+  unfolding earlyCause readingCause
+  early-some z = go (wholeOf expr) (any (λ l. leb levelCount l) levels) (ltb maxArity (length levels)) (cond (isPassed (limitAt expr 0)) 5 0) z
+    where
+      go : (a b d : Bool) (x : ℕ) → (early a b d 0 ≡ 0 → ⊥) → early a b d x ≡ early a b d 0
+      go false b d x h = refl
+      go true true d x h = refl
+      go true false true x h = refl
+      go true false false x h = absurd (h refl)
+
 -- The reply in a module m that is ended.
 module _ (names facts contexts heads words : List ℕ) (m fields : ℕ) (levels expr : List ℕ) (bytes : Bytes expr) where
   abbrev End : State → Term → Outcome ℕ
@@ -180,7 +210,7 @@ module _ (names facts contexts heads words : List ℕ) (m fields : ℕ) (levels 
         asked .cause ∙ ap₂ two (right .cause-9) (right .cause-10)
 
     -- 9 and 10
-    pub reply-names : (k ≡ 0 → ⊥) → AsksIn names facts contexts heads words m fields levels expr (Refused k fields)
+    reply-names : (k ≡ 0 → ⊥) → AsksIn names facts contexts heads words m fields levels expr (Refused k fields)
     reply-names h = record {
       reply = λ file fs s rs c p orders refs declared stands ended f.
           let law = names-law file fs s rs c p orders refs declared stands ended in
@@ -199,19 +229,54 @@ module _ (names facts contexts heads words : List ℕ) (m fields : ℕ) (levels 
     answers z = none-of-two (asked .unknown) (asked .miscounted) (sym (asked .cause) ∙ z)
 
     -- the level
-    pub reply-level : k ≡ 0 → (f : Form) (l : ℕ) → AskedForm names facts (contextCodes contexts heads m) words expr f → l ≡ levelAt f levels
+    reply-level : k ≡ 0 → (l x : ℕ) → Worth (askedLevels names facts (contextCodes contexts heads m) (sceneOf itselves words) levels) 0 (exprAt maxNesting expr 0) l x
         → AsksIn names facts contexts heads words m fields levels expr (Level l)
-    reply-level z f l form is-l = record {
+    reply-level z l x worth = record {
       reply = λ file fs s rs c p orders refs declared stands ended _.
           let a = answers z in
           let law = asked-level file fs s rs (store names facts contexts orders heads) c p refs words declared stands m ended expr bytes (spelt .0) (spelt .1)
-          (causes .2) (length levels) k asked (a .0) (a .1) f form levels refl few-levels (are-levels levels expr bytes (causes .0)) in
-          ap result (is-l ∙ law)
+          (causes .2) (length levels) k asked (a .0) (a .1) levels l x worth refl few-levels (are-levels levels expr bytes (causes .0)) in
+          ap result law
           ∙ none-at-all (any (λ l. leb levelCount l) levels) (overArity (length levels)) (overLimit (spelt .0))
           (unknown s (moduleNo s m .context) (length levels) (spelt .0)) (miscounted s (moduleNo s m .context) (spelt .0)) (s .fields)
           (resolve s (moduleNo s m .context) (spelt .0)) (End s) (spelt .2) (sym (names-law file fs s rs c p orders refs declared stands ended) ∙ z)
           ∙ as-read s (some (spelt .0)) (spelt .1);
     }
+
+  -- what is known before the expression is walked
+  pub reply-early : (r : ℕ) → r ≡ earlyCause levels expr → (r ≡ 0 → ⊥) → AsksIn names facts contexts heads words m fields levels expr (Refused r fields)
+  reply-early r is-r h = reply-reading r (is-r ∙ sym (early-some levels expr (λ z. h (is-r ∙ z)))) h
+
+  module _ (clear : earlyCause levels expr ≡ 0) (w : Walked) (judged : JudgedFirst names facts (contextCodes contexts heads m) words levels (length levels) expr w) where
+    abbrev G : Algebra ℕ ℕ (List ℕ)
+    G = askedLevels names facts (contextCodes contexts heads m) (sceneOf itselves words) levels
+
+    reading : (b : Bool) → w .kept ≡ b → readingCause levels expr ≡ cond (not b) 5 0
+    reading b e =
+        early-none levels expr clear
+        ∙ ap (λ (b : Bool). cond b 5 0)
+        (ap isPassed (sym (limited expr 0 (keptOf (exprAt maxNesting expr 0)) refl))
+        ∙ kept-passed G 0 (exprAt maxNesting expr 0) (w .kept) (w .level) (w .looked .next) (judged .level) ∙ ap not e)
+
+    asked : (kept : w .kept ≡ true) (k : ℕ) → k ≡ nameCause (w .looked .unknown) (w .looked .miscounted)
+        → NamesAsked names facts (contextCodes contexts heads m) (length levels) (exprAt maxNesting expr 0) k
+    asked kept k e = names-asked names facts (contextCodes contexts heads m) words levels (length levels) expr w judged kept k e
+
+    pub reply-walked : (r : Asked) → r ≡ replyOf w fields → AsksIn names facts contexts heads words m fields levels expr r
+    unfolding replyOf nameCause
+    reply-walked r q =
+        subst (AsksIn names facts contexts heads words m fields levels expr) (sym q)
+        (go (w .kept) refl (w .looked .unknown) refl (w .looked .miscounted) refl)
+      where
+        go : (a : Bool) → w .kept ≡ a → (u : Bool) → w .looked .unknown ≡ u → (d : Bool) → w .looked .miscounted ≡ d
+            → AsksIn names facts contexts heads words m fields levels expr
+            (cond a (cond u (Refused 9 fields) (cond d (Refused 10 fields) (Level (w .level)))) (Refused 5 fields))
+        go false k u eu d ed = reply-reading 5 (sym (reading false k)) (λ z. omega arith)
+        go true k true eu d ed = reply-names (reading true k) 9 (asked k 9 (rw eu refl)) (λ z. omega arith)
+        go true k false eu true ed = reply-names (reading true k) 10 (asked k 10 (rw (eu, ed) refl)) (λ z. omega arith)
+        go true k false eu false ed =
+            reply-level (reading true k) 0 (asked k 0 (rw (eu, ed) refl)) refl (w .level) (w .looked .next)
+            (kept-worth G 0 (exprAt maxNesting expr 0) (w .kept) (w .level) (w .looked .next) (judged .level) k)
 
 -- The reply by a module's name n.
 module _ (names facts contexts heads words : List ℕ) (c : Counts) (n : ℕ) (levels expr : List ℕ) (q : ℕ) (place : q ≡ placeOf n (part heads 0 (c .modules))) where
@@ -233,13 +298,13 @@ module _ (names facts contexts heads words : List ℕ) (c : Counts) (n : ℕ) (l
         (sym (found-module (store names facts contexts orders heads) c s (stands .holds) n q place ended));
   }
 
--- a query without causes 3 and 5 has at most three parameters
-pub few-given : (levels expr : List ℕ) → readingCause levels expr ≡ 0 → length levels ≤ width
-unfolding readingCause
-few-given levels expr z = go (wholeOf expr) (any (λ l. leb levelCount l) levels) (ltb maxArity (length levels)) (isPassed (limitAt expr 0)) z refl
+-- a query without these causes has at most three parameters
+pub few-given : (levels expr : List ℕ) → earlyCause levels expr ≡ 0 → length levels ≤ width
+unfolding earlyCause
+few-given levels expr z = go (wholeOf expr) (any (λ l. leb levelCount l) levels) (ltb maxArity (length levels)) z refl
   where
-    go : (a b d l : Bool) → cond a (three b d l) 3 ≡ 0 → ltb maxArity (length levels) ≡ d → length levels ≤ width
-    go false b d l h e = absurd (omega arith)
-    go true true d l h e = absurd (omega arith)
-    go true false true l h e = absurd (omega arith)
-    go true false false l h e = omega (arith, ltb-false maxArity (length levels) e)
+    go : (a b d : Bool) → early a b d 0 ≡ 0 → ltb maxArity (length levels) ≡ d → length levels ≤ width
+    go false b d h e = absurd (omega arith)
+    go true true d h e = absurd (omega arith)
+    go true false true h e = absurd (omega arith)
+    go true false false h e = omega (arith, ltb-false maxArity (length levels) e)

@@ -23,6 +23,7 @@ use Rattle.resolve.specs.Walk.{Looks}
 use Rattle.worlds.specs.Rows.{Row}
 use Rattle.judge_plain.specs.declared.Phase.{Phase}
 use Rattle.standing.specs.Standing.{Standing}
+use Rattle.asking.specs.declared.Walked.{Walked}
 use Rattle.asking.specs.declared.Asked.{Asked}
 use Rattle.asking.specs.declared.Asked.the-variants.{Level, Refused}
 
@@ -34,6 +35,11 @@ isPassed Passed = true
 unfoldable pub readingCause : List ℕ → List ℕ → ℕ
 readingCause levels expr =
     cond (wholeOf expr) (cond (any (λ l. leb levelCount l) levels) 3 (cond (ltb maxArity (length levels)) 5 (cond (isPassed (limitAt expr 0)) 5 0))) 3
+
+-- the same without the limits of the expression
+unfoldable pub earlyCause : List ℕ → List ℕ → ℕ
+earlyCause levels expr =
+    cond (wholeOf expr) (cond (any (λ l. leb levelCount l) levels) 3 (cond (ltb maxArity (length levels)) 5 0)) 3
 
 -- causes 9 and 10 of a walk's answers
 unfoldable pub nameCause : Bool → Bool → ℕ
@@ -48,6 +54,13 @@ pub record NamesAsked (names facts cs : List ℕ) (n : ℕ) (x : Found) (r : ℕ
   pub next : ℕ
   pub looks : Looks names facts cs n 0 x table noted unknown miscounted next
   pub cause : r ≡ nameCause unknown miscounted
+
+-- the reply by what a walk of the expression found
+unfoldable pub replyOf : Walked → ℕ → Asked
+replyOf w fields =
+    cond (w .kept)
+    (cond (w .looked .unknown) (Refused 9 fields) (cond (w .looked .miscounted) (Refused 10 fields) (Level (w .level))))
+    (Refused 5 fields)
 
 -- an answer as the rules give it
 abbrev pub outcomeOf : Asked → Outcome ℕ

@@ -1,2 +1,4 @@
-pub mod Walk
 pub mod Asks
+pub mod Columns
+pub mod Names
+pub mod Walk

@@ -1,21 +1,33 @@
--- What the walk over a query's expression finds. It is as the walk of levels, but what a name means is looked up where the name stands, in a
--- context given by its codes; no instance is around the expression.
+-- What the walk over a query's expression finds. Each name is looked up where it stands, in a context given by its codes; no instance is around
+-- the expression. Definitions only.
+use mathlib.Core.Bool.{Bool, cond, false, true, _&&_, _||_}
 use mathlib.Core.List.{List, [], _∷_}
 use mathlib.Core.Path.{_≡_}
-use Prim.Native.Nat.{ℕ}
-use lib.ListN.{replicate, take}
+use Prim.Native.Nat.{ℕ, _+_, _^_, _<_, _≤_}
+use lib.Dec.{eqb}
+use lib.ListN.{length, replicate, take}
 use Rattle.limits.specs.Limits.{maxNesting}
-use Rattle.tokens.specs.Expr.{Expr, Found, Founds, exprAt, found}
-use Rattle.tokens.specs.Fold.{Algebra, Worth, Worths, fold}
+use Rattle.rows.specs.Rows.{maskBitsOf}
+use Rattle.tokens.specs.Expr.{Found, Founds, exprAt, found, founds, none, nones}
+use Rattle.tokens.specs.Fold.{Algebra, fold, folds}
+use Rattle.tokens.specs.Limit.{countsKept, countsKepts}
 use Rattle.tokens.specs.declared.Token.{Token}
+use Rattle.agree.specs.Folds.{searching}
 use Rattle.texts.specs.Text.{Scene, scope}
-use Rattle.forms.specs.Forms.{AllFit, Fit, levelAt, levelsAt, width}
-use Rattle.forms.specs.declared.Form.{Form}
-use Rattle.resolve.specs.Walk.{numberIn}
-use Rattle.levels.specs.Tables.{sceneOf}
+use Rattle.forms.specs.Forms.{takes, width}
+use Rattle.forms.specs.Numbers.{demandOf}
+use Rattle.resolve.specs.Walk.{inside, miscountedIn, numberIn, unknownIn, wordCount}
+use Rattle.resolve.specs.declared.Looked.{Looked}
+use Rattle.levels.specs.Tables.{sceneOf, tableWords}
 use Rattle.levels.specs.Six.{sixLevel}
-use Rattle.levels.specs.Walk.{tokenMeans}
+use Rattle.levels.specs.Walk.{Binds, Room}
 use Rattle.standing.specs.Standing.{itselves}
+use Rattle.asking.specs.Columns.{Columned}
+use Rattle.asking.specs.Names.{Tabled}
+use Rattle.asking.specs.declared.Args.{Args}
+use Rattle.asking.specs.declared.Place.{Place}
+use Rattle.asking.specs.declared.Scope.{Scope}
+use Rattle.asking.specs.declared.Walked.{Walked}
 
 -- a token's level, by a table that holds no more than its own number
 abbrev pub askedLevel : List ℕ → List ℕ → List ℕ → Scene → List ℕ → ℕ → ℕ → Token → List ℕ → ℕ
@@ -24,21 +36,99 @@ askedLevel names facts cs S v bits at t ls = sixLevel (numberIn names facts cs t
 abbrev pub askedLevels : List ℕ → List ℕ → List ℕ → Scene → List ℕ → Algebra ℕ ℕ (List ℕ)
 askedLevels names facts cs S v = record { token = askedLevel names facts cs S v; start = replicate width 0; push = λ l ls. l ∷ take 5 ls; inner = scope }
 
--- the level of a token over arguments of these forms
-unfoldable pub askedMeans : List ℕ → List ℕ → List ℕ → List ℕ → List ℕ → ℕ → Token → List Form → List ℕ → ℕ
-askedMeans names facts cs numbers words bits t fs v = tokenMeans (numberIn names facts cs t ∷ []) numbers words 0 bits 0 t fs v
+-- the levels of at most three arguments, as six
+abbrev pub argumentLevels : Args → List ℕ
+argumentLevels a = a .first ∷ a .second ∷ a .third ∷ 0 ∷ 0 ∷ 0 ∷ []
 
--- f gives the level of what is found, and `next` is the position after it
-pub record Shown (names facts cs numbers words : List ℕ) (bits : ℕ) (x : Found) (f : Form) (next : ℕ) : Type 0 where
-  pub fit : Fit f
-  pub worth : (v : List ℕ) → Worth (askedLevels names facts cs (sceneOf numbers words) v) bits x (levelAt f v) next
+-- r is the level x
+pub record LevelOf (r x : ℕ) : Type 0 where
+  pub same : r ≡ x
+  pub low : r ≤ 4
 
--- the forms fs give the levels of an argument list
-pub record AllShown (names facts cs numbers words : List ℕ) (outer last : ℕ) (x : Founds) (fs : List Form) (next : ℕ) : Type 0 where
-  pub fit : AllFit fs
-  pub worth : (v : List ℕ) → Worths (askedLevels names facts cs (sceneOf numbers words) v) outer last x (levelsAt fs v) next
+-- they are levels
+pub record Low (a : Args) : Type 0 where
+  pub first : a .first ≤ 4
+  pub second : a .second ≤ 4
+  pub third : a .third ≤ 4
 
--- f gives the level of the expression that the bytes s begin with, whatever the levels of the parameters
-pub record AskedForm (names facts cs words s : List ℕ) (f : Form) : Type 0 where
-  pub level : (t : Expr) (e : ℕ) → exprAt maxNesting s 0 ≡ found t e → (v : List ℕ)
-      → levelAt f v ≡ fold (askedLevels names facts cs (sceneOf itselves words) v) 0 t
+-- whether a row of k arguments, one or two, takes these levels
+unfoldable pub rowTakes : ℕ → ℕ → ℕ → ℕ → Bool
+rowTakes c k x y = takes (demandOf (maskBitsOf c 0)) x && cond (eqb k 1) true (takes (demandOf (maskBitsOf c 1)) y)
+
+-- the answers to no, one, two and three arguments
+abbrev pub joined : Looked → Looked → Looked
+joined a b = record { next = b .next; unknown = a .unknown || b .unknown; miscounted = a .miscounted || b .miscounted }
+
+abbrev pub noneOf : Bool → ℕ → Args
+noneOf kept at = record { kept = kept; first = 0; second = 0; third = 0; looked = record { next = at; unknown = false; miscounted = false } }
+
+abbrev pub oneOf : Walked → Args
+oneOf a = record { kept = true; first = a .level; second = 0; third = 0; looked = a .looked }
+
+abbrev pub twoOf : Walked → Walked → Args
+twoOf a b = record { kept = true; first = a .level; second = b .level; third = 0; looked = joined (a .looked) (b .looked) }
+
+abbrev pub threeOf : Walked → Walked → Walked → Args
+threeOf a b c =
+    record { kept = true; first = a .level; second = b .level; third = c .level; looked = joined (a .looked) (joined (b .looked) (c .looked)) }
+
+-- Whether what is found keeps the limits; and if it does, v is what it is worth and x the position after it.
+module _ {E R A : Type 0} where
+  unfoldable pub KeptWorth : Algebra E R A → E → Found → Bool → R → ℕ → Type 0
+  KeptWorth G e (found t n) kept v x = (kept ≡ countsKept t) × (kept ≡ true → (v ≡ fold G e t) × (x ≡ n))
+  KeptWorth G e none kept v x = kept ≡ false
+
+  unfoldable pub KeptWorths : Algebra E R A → E → E → Founds → Bool → A → ℕ → Type 0
+  KeptWorths G outer last (founds ts n) kept a x = (kept ≡ countsKepts ts) × (kept ≡ true → (a ≡ folds G outer last ts) × (x ≡ n))
+  KeptWorths G outer last nones kept a x = kept ≡ false
+
+-- What a walk answers of an expression: its level, and causes 9 and 10 where p parameters are known.
+pub record Judged (names facts cs words v : List ℕ) (p : ℕ) (e : Scope) (x : Found) (w : Walked) : Type 0 where
+  pub low : w .level ≤ 4
+  pub level : KeptWorth (askedLevels names facts cs (sceneOf itselves words) v) (e .bits) x (w .kept) (w .level) (w .looked .next)
+  pub unknown : KeptWorth (searching (unknownIn names facts cs p)) (e .bound) x (w .kept) (w .looked .unknown) (w .looked .next)
+  pub miscounted : KeptWorth (searching (miscountedIn names facts cs)) (e .bound) x (w .kept) (w .looked .miscounted) (w .looked .next)
+
+-- of the expression that the bytes s begin with
+abbrev pub JudgedFirst : List ℕ → List ℕ → List ℕ → List ℕ → List ℕ → ℕ → List ℕ → Walked → Type 0
+JudgedFirst names facts cs words v p s w = Judged names facts cs words v p (record { bits = 0; bound = 0 }) (exprAt maxNesting s 0) w
+
+-- where no level is asked for: at some levels of the names
+pub record NamesJudged (names facts cs : List ℕ) (p : ℕ) (s : List ℕ) (w : Walked) : Type 0 where
+  pub words : List ℕ
+  pub levels : List ℕ
+  pub judged : JudgedFirst names facts cs words levels p s w
+
+-- and of an argument list, the last of it in another scope
+pub record AllJudged (names facts cs words v : List ℕ) (p : ℕ) (outer last : Scope) (x : Founds) (a : Args) : Type 0 where
+  pub low : Low a
+  pub level : KeptWorths (askedLevels names facts cs (sceneOf itselves words) v) (outer .bits) (last .bits) x (a .kept) (argumentLevels a) (a .looked .next)
+  pub unknown : KeptWorths (searching (unknownIn names facts cs p)) (outer .bound) (last .bound) x (a .kept) (a .looked .unknown) (a .looked .next)
+  pub miscounted : KeptWorths (searching (miscountedIn names facts cs)) (outer .bound) (last .bound) x (a .kept) (a .looked .miscounted) (a .looked .next)
+
+-- what a token that means what the context says answers over arguments that keep the limits
+pub record Headed (names facts cs words v : List ℕ) (p : ℕ) (e : Scope) (t : Token) (a : Args) (w : Walked) : Type 0 where
+  pub kept : w .kept ≡ true
+  pub low : w .level ≤ 4
+  pub level : w .level ≡ askedLevel names facts cs (sceneOf itselves words) v (e .bits) 0 t (argumentLevels a)
+  pub unknown : w .looked .unknown ≡ (unknownIn names facts cs p (e .bound) 0 t || a .looked .unknown)
+  pub miscounted : w .looked .miscounted ≡ (miscountedIn names facts cs (e .bound) 0 t || a .looked .miscounted)
+  pub next : w .looked .next ≡ a .looked .next
+
+-- the lent arrays serve a walk
+pub record Ready (names contexts columns table words v : List ℕ) (p : Place) : Type 0 where
+  pub rows : Columned columns
+  pub places : Tabled names contexts (p .from) (p .end) table
+  pub from : p .from < 2 ^ 32
+  pub forms : length words ≡ tableWords
+  pub levels : length v ≤ width
+
+-- the scope of a token's last argument
+pub record Inside (t : Token) (e r : Scope) : Type 0 where
+  pub bits : Binds t (e .bits) (r .bits)
+  pub bound : r .bound ≡ inside t (e .bound)
+
+-- room for as many bound variables more as there is nesting left
+pub record Roomy (nest : ℕ) (e : Scope) : Type 0 where
+  pub bits : Room nest (e .bits)
+  pub bound : e .bound + nest < wordCount

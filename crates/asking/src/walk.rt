@@ -1,224 +1,484 @@
-// The level form of a query's expression, by one walk that looks each name up on its way.
+// One walk over a query's expression: whether it keeps the limits, whether its names are known and rightly counted, and its level. Each name
+// is looked up where it stands.
 ghost use mathlib.Core.Path.{_≡_};
-ghost use Prim.Native.Nat.{_≤_, min};
+ghost use mathlib.Core.Bool.{false};
+ghost use Prim.Native.Nat.{_-_, _^_, _<_, _≤_};
 ghost use lib.ListN.{length};
-ghost use Rattle.limits.specs.Limits.{maxModules};
+ghost use Rattle.limits.specs.Limits.{maxArity, maxModules};
 ghost use Rattle.tokens.specs.Expr.{exprAt, several};
 ghost use Rattle.tokens.specs.Fold.{underOf};
-ghost use Rattle.forms.specs.Forms.{AllFit, Gives};
-ghost use Rattle.context.specs.Store.{contextCodes};
-ghost use Rattle.resolve.specs.Walk.{numberOf};
+ghost use Rattle.tokens.specs.Token.{argumentsOf};
+ghost use Rattle.tokens.specs.declared.Token.the-variants.{BuiltIn};
+ghost use Rattle.forms.specs.Forms.{width};
+ghost use Rattle.context.specs.Parts.{part};
+ghost use Rattle.context.specs.Store.{contextCodes, wordCount};
 ghost use Rattle.levels.specs.Tables.{tableWords};
-ghost use Rattle.levels.specs.Walk.{Room, Zeros};
-ghost use Rattle.asking.specs.Walk.{AllShown, AskedForm, Shown, askedMeans};
-use forms::Form;
-use levels::Args;
-use levels::View;
-use levels::Walked;
-use levels::heads::inside;
-use levels::heads::token_form;
-use levels::names::identity;
-use levels::names::push;
+ghost use Rattle.asking.specs.Columns.{Columned};
+ghost use Rattle.asking.specs.Walk.{AllJudged, Headed, Inside, Judged, JudgedFirst, Low, Ready, Roomy, noneOf, oneOf, threeOf, twoOf};
+use crate::Args;
+use crate::Place;
+use crate::Scope;
+use crate::Walked;
+use crate::columns;
+use crate::columns::Columns;
+use crate::heads::token_level;
+use crate::names;
+use crate::token::token_in;
+use context::lists::number_at;
 use limits::Limits;
-use resolve::Look;
-use resolve::lookup::look_up;
+use resolve::Ask;
+use resolve::Looked;
+use resolve::steps::both;
+use resolve::steps::nothing;
+use resolve::steps::with_args;
 use tokens::Token;
 
-fn number_of(l: Look) -> u16
-    ensures { λ r. ⌜ r ≡ numberOf l ⌝ }
+// From so many bytes on the tables are worth filling.
+const LONG: usize = 1024;
+
+// How many arguments follow a token.
+fn arguments_in(columns: &[u8], t: Token) -> u8
+    requires { ⌜ Columned (now columns) ⌝ }
+    ensures { λ r. ⌜ r ≡ argumentsOf t ⌝ }
 {
-    match l {
-        Look::Ref(number, _) => number,
-        Look::NoRef => 0,
+    match t {
+        Token::Parameter(_) => 0,
+        Token::Bound(_) => 0,
+        Token::Name(_, k) => k,
+        Token::InstanceOperator(_, _, k) => k,
+        Token::BuiltIn(code) => columns::arity(columns, code),
+        Token::Literal(_) => 0,
+        Token::NoToken => 0,
     }
 }
 
-fn no_arguments() -> [Form; Form::PARAMS]
-    ensures { λ r. ⌜ Zeros r ⌝ }
+// One more bound variable, where a code binds one.
+fn bind(columns: &[u8], code: u8, e: Scope) -> Scope
+    requires { ⌜ (e .bits < 2 ^ 63) × (e .bound < 65536) × Columned (now columns) ⌝ }
+    ensures { λ r. ⌜ Inside (BuiltIn code) e r ⌝ }
 {
-    let z = forms::leaf(0);
-    [z; Form::PARAMS]
+    if columns::binder(columns, code) == 0 {
+        e
+    } else {
+        Scope {
+            bits: e.bits * 2 + (columns::bound_level(columns, code) as u64),
+            bound: e.bound + 1,
+        }
+    }
 }
 
-// Where no expression is found.
-fn nothing(at: usize) -> Walked
-    ensures { λ r. ⌜ Gives (r .form) (λ v. min 4 0) ⌝ }
+// What a token's last argument inherits.
+fn inside(columns: &[u8], t: Token, e: Scope) -> Scope
+    requires { ⌜ (e .bits < 2 ^ 63) × (e .bound < 65536) × Columned (now columns) ⌝ }
+    ensures { λ r. ⌜ Inside t e r ⌝ }
+{
+    match t {
+        Token::Parameter(_) => e,
+        Token::Bound(_) => e,
+        Token::Name(_, _) => e,
+        Token::InstanceOperator(_, _, _) => e,
+        Token::BuiltIn(code) => bind(columns, code, e),
+        Token::Literal(_) => e,
+        Token::NoToken => e,
+    }
+}
+
+// What the first of k arguments inherits: the last is inside the token's binder, the others are not.
+fn under(k: u8, outer: Scope, last: Scope) -> Scope
+    ensures { λ r. ⌜ r ≡ underOf k outer last ⌝ }
+{
+    if k == 1 { last } else { outer }
+}
+
+// Where a limit is passed.
+fn stopped(at: usize) -> Walked
+    ensures { λ r. ⌜ (r .kept ≡ false) × (r .level ≡ 0) ⌝ }
 {
     Walked {
-        form: forms::leaf(0),
-        next: at,
+        kept: false,
+        level: 0,
+        looked: nothing(at),
     }
 }
 
-// The bound variables of the first of k arguments: the last is inside the token's binder, the others are not.
-fn under(k: u8, bits: u64, last: u64) -> u64
-    ensures { λ r. ⌜ r ≡ underOf k bits last ⌝ }
+fn no_args(kept: bool, at: usize) -> Args
+    ensures { λ r. ⌜ r ≡ noneOf kept at ⌝ }
 {
-    if k == 1 { last } else { bits }
+    Args {
+        kept,
+        first: 0,
+        second: 0,
+        third: 0,
+        looked: nothing(at),
+    }
 }
 
-// The form of a token over its arguments, a name being looked up in the context of module m. `own` holds the own number of each definition.
-fn form_of(
+fn one(a: Walked) -> Args
+    ensures { λ r. ⌜ r ≡ oneOf a ⌝ }
+{
+    let looked = a.looked;
+    Args {
+        kept: true,
+        first: a.level,
+        second: 0,
+        third: 0,
+        looked,
+    }
+}
+
+fn two(a: Walked, b: Walked) -> Args
+    ensures { λ r. ⌜ r ≡ twoOf a b ⌝ }
+{
+    Args {
+        kept: true,
+        first: a.level,
+        second: b.level,
+        third: 0,
+        looked: both(a.looked, b.looked),
+    }
+}
+
+fn three(a: Walked, b: Walked, c: Walked) -> Args
+    ensures { λ r. ⌜ r ≡ threeOf a b c ⌝ }
+{
+    let r = two(b, c);
+    Args {
+        kept: true,
+        first: a.level,
+        second: r.first,
+        third: r.second,
+        looked: both(a.looked, r.looked),
+    }
+}
+
+// A token over its k arguments, which keep the limits.
+fn over_args(
+    columns: &[u8],
+    table: &[u16],
+    contexts: &[u16],
     names: &[u16],
     facts: &[u16],
-    contexts: &[u16],
-    heads: &[u16],
-    own: &[u16],
     words: &[u64],
-    m: usize,
+    levels: &[u8],
+    p: Place,
+    e: Scope,
     t: Token,
-    fs: [Form; Form::PARAMS],
-    bits: u64,
-) -> Form
-    requires { ⌜ (length (now words) ≡ tableWords) × (m ≤ maxModules) × AllFit fs ⌝ }
-    ensures { λ r. ⌜ Gives r (askedMeans (now (names .entry)) (now (facts .entry)) (contextCodes (now (contexts .entry)) (now (heads .entry)) m) (now (own .entry)) (now (words .entry)) bits t fs) ⌝ }
+    k: u8,
+    a: Args,
+) -> Walked
+    requires { ⌜ (k ≡ argumentsOf t) × (k ≤ maxArity) × Low a × Ready (now names) (now contexts) (now columns) (now table) (now words) (now levels) p ⌝ }
+    ensures { λ r. ⌜ Headed (now (names .entry)) (now (facts .entry)) (part (now (contexts .entry)) (p .from) (p .end - p .from)) (now (words .entry)) (now (levels .entry)) (p .params) e t a r ⌝ }
 {
-    let n = number_of(look_up(names, facts, contexts, heads, m, t));
-    let one = [n];
-    let view = View { outer: 0, bits };
-    token_form(&one, own, words, 0, t, fs, view)
+    let l = names::look(names, facts, contexts, table, p.from, p.end, t);
+    let ask = Ask {
+        module: 0,
+        params: p.params,
+        bound: e.bound,
+    };
+    let looked = with_args(t, l, ask, a.looked);
+    Walked {
+        kept: true,
+        level: token_level(columns, words, levels, e.bits, t, l, k, a),
+        looked,
+    }
 }
 
-// The form of the expression at a position, and where it ends. Where no expression stands there that nests within `nest`, nothing is said.
+// The expression at a position that nests at most `nest` deep.
 fn walk_expr(
     s: &[u8],
+    columns: &[u8],
+    table: &[u16],
+    contexts: &[u16],
     names: &[u16],
     facts: &[u16],
-    contexts: &[u16],
-    heads: &[u16],
-    own: &[u16],
     words: &[u64],
+    levels: &[u8],
     at: usize,
     nest: usize,
-    m: usize,
-    bits: u64,
+    p: Place,
+    e: Scope,
 ) -> Walked
-    requires { ⌜ (length (now words) ≡ tableWords) × (m ≤ maxModules) × Room nest bits ⌝ }
-    ensures { λ r.
-        ⌜ Shown (now (names .entry)) (now (facts .entry)) (contextCodes (now (contexts .entry)) (now (heads .entry)) m) (now (own .entry)) (now (words .entry)) bits (exprAt nest (now (s .entry)) at) (r .form) (r .next) ⌝ }
+    requires { ⌜ Ready (now names) (now contexts) (now columns) (now table) (now words) (now levels) p × Roomy nest e ⌝ }
+    ensures { λ r. ⌜ Judged (now (names .entry)) (now (facts .entry)) (part (now (contexts .entry)) (p .from) (p .end - p .from)) (now (words .entry)) (now (levels .entry)) (p .params) e (exprAt nest (now (s .entry)) at) r ⌝ }
 {
     if nest == 0 {
-        return nothing(at);
+        return stopped(at);
     }
-    let t = tokens::token_at(s, at);
+    let t = token_in(s, columns, at);
     if tokens::is_token(t) {
-        let last = inside(t, bits);
+        let k = arguments_in(columns, t);
+        if (Limits::ARITY as u8) < k {
+            return stopped(at);
+        }
         let start = at + tokens::width(t);
-        let k = tokens::arguments(t);
+        let last = inside(columns, t, e);
         let a = walk_args(
             s,
+            columns,
+            table,
+            contexts,
             names,
             facts,
-            contexts,
-            heads,
-            own,
             words,
+            levels,
             start,
             k,
             nest - 1,
-            m,
-            bits,
+            p,
+            e,
             last,
         );
-        let fs = a.forms;
-        Walked {
-            form: form_of(names, facts, contexts, heads, own, words, m, t, fs, bits),
-            next: a.next,
+        if a.kept {
+            return over_args(
+                columns,
+                table,
+                contexts,
+                names,
+                facts,
+                words,
+                levels,
+                p,
+                e,
+                t,
+                k,
+                a,
+            );
         }
-    } else {
-        nothing(at)
+        return stopped(at);
     }
+    stopped(at)
 }
 
-// The forms of k arguments from a position on, the last of them under the bound variables `last`.
+// At most three arguments from a position on, the last of them in the scope `last`.
 fn walk_args(
     s: &[u8],
+    columns: &[u8],
+    table: &[u16],
+    contexts: &[u16],
     names: &[u16],
     facts: &[u16],
-    contexts: &[u16],
-    heads: &[u16],
-    own: &[u16],
     words: &[u64],
+    levels: &[u8],
     at: usize,
     k: u8,
     nest: usize,
-    m: usize,
-    bits: u64,
-    last: u64,
+    p: Place,
+    outer: Scope,
+    last: Scope,
 ) -> Args
-    requires { ⌜ (length (now words) ≡ tableWords) × (m ≤ maxModules) × Room nest bits × Room nest last ⌝ }
-    ensures { λ r.
-        ⌜ AllShown (now (names .entry)) (now (facts .entry)) (contextCodes (now (contexts .entry)) (now (heads .entry)) m) (now (own .entry)) (now (words .entry)) bits last (several (exprAt nest (now (s .entry))) at k) (r .forms) (r .next) ⌝ }
+    requires { ⌜ Ready (now names) (now contexts) (now columns) (now table) (now words) (now levels) p × Roomy nest outer × Roomy nest last × (k ≤ maxArity) ⌝ }
+    ensures { λ r. ⌜ AllJudged (now (names .entry)) (now (facts .entry)) (part (now (contexts .entry)) (p .from) (p .end - p .from)) (now (words .entry)) (now (levels .entry)) (p .params) outer last (several (exprAt nest (now (s .entry))) at k) r ⌝ }
 {
     if k == 0 {
-        return Args {
-            forms: no_arguments(),
-            next: at,
-        };
+        return no_args(true, at);
     }
-    let here = under(k, bits, last);
-    let first = walk_expr(
+    let e = under(k, outer, last);
+    let a = walk_expr(
         s,
+        columns,
+        table,
+        contexts,
         names,
         facts,
-        contexts,
-        heads,
-        own,
         words,
+        levels,
         at,
         nest,
-        m,
-        here,
+        p,
+        e,
     );
-    let rest = walk_args(
-        s,
-        names,
-        facts,
-        contexts,
-        heads,
-        own,
-        words,
-        first.next,
-        k - 1,
-        nest,
-        m,
-        bits,
-        last,
-    );
-    let fs = rest.forms;
-    Args {
-        forms: push(first.form, fs),
-        next: rest.next,
+    if a.kept {
+        if k == 1 {
+            return one(a);
+        }
+        let f = under(k - 1, outer, last);
+        let i = a.looked.next;
+        let b = walk_expr(
+            s,
+            columns,
+            table,
+            contexts,
+            names,
+            facts,
+            words,
+            levels,
+            i,
+            nest,
+            p,
+            f,
+        );
+        if b.kept {
+            if k == 2 {
+                return two(a, b);
+            }
+            let j = b.looked.next;
+            let c = walk_expr(
+                s,
+                columns,
+                table,
+                contexts,
+                names,
+                facts,
+                words,
+                levels,
+                j,
+                nest,
+                p,
+                last,
+            );
+            if c.kept {
+                return three(a, b, c);
+            }
+            return no_args(false, at);
+        }
+        return no_args(false, at);
     }
+    no_args(false, at)
 }
 
-// The form of the expression that the bytes begin with, in the context of module m.
-pub fn asked_form(
-    expr: &[u8],
+// The expression that the bytes begin with, by tables that may be empty.
+fn judge_with(
+    s: &[u8],
+    columns: &[u8],
+    table: &[u16],
+    contexts: &[u16],
     names: &[u16],
     facts: &[u16],
-    contexts: &[u16],
-    heads: &[u16],
     words: &[u64],
-    m: usize,
-) -> Form
-    requires { ⌜ (length (now words) ≡ tableWords) × (m ≤ maxModules) ⌝ }
-    ensures { λ r. ⌜ AskedForm (now (names .entry)) (now (facts .entry)) (contextCodes (now (contexts .entry)) (now (heads .entry)) m) (now (words .entry)) (now (expr .entry)) r ⌝ }
+    levels: &[u8],
+    p: Place,
+) -> Walked
+    requires { ⌜ Ready (now names) (now contexts) (now columns) (now table) (now words) (now levels) p ⌝ }
+    ensures { λ r. ⌜ JudgedFirst (now (names .entry)) (now (facts .entry)) (part (now (contexts .entry)) (p .from) (p .end - p .from)) (now (words .entry)) (now (levels .entry)) (p .params) (now (s .entry)) r ⌝ }
 {
-    let mut own = [0u16; Limits::DEFINITIONS];
-    identity(&mut own);
-    let r = walk_expr(
-        expr,
+    let e = Scope { bits: 0, bound: 0 };
+    let n = Limits::NESTING;
+    walk_expr(
+        s,
+        columns,
+        table,
+        contexts,
         names,
         facts,
-        contexts,
-        heads,
-        &own,
         words,
+        levels,
         0,
-        Limits::NESTING,
-        m,
-        0,
-    );
-    r.form
+        n,
+        p,
+        e,
+    )
+}
+
+// The same with no tables, which costs less where the expression is short.
+fn judge_short(
+    s: &[u8],
+    contexts: &[u16],
+    names: &[u16],
+    facts: &[u16],
+    words: &[u64],
+    levels: &[u8],
+    p: Place,
+) -> Walked
+    requires { ⌜ (length (now words) ≡ tableWords) × (length (now levels) ≤ width) × (p .from < 2 ^ 32) ⌝ }
+    ensures { λ r. ⌜ JudgedFirst (now (names .entry)) (now (facts .entry)) (part (now (contexts .entry)) (p .from) (p .end - p .from)) (now (words .entry)) (now (levels .entry)) (p .params) (now (s .entry)) r ⌝ }
+{
+    let columns = [0u8; 1];
+    let table = [0u16; 1];
+    judge_with(
+        s,
+        &columns[..0],
+        &table[..0],
+        contexts,
+        names,
+        facts,
+        words,
+        levels,
+        p,
+    )
+}
+
+// The same with the tables filled.
+fn judge_long(
+    s: &[u8],
+    contexts: &[u16],
+    names: &[u16],
+    facts: &[u16],
+    words: &[u64],
+    levels: &[u8],
+    p: Place,
+) -> Walked
+    requires { ⌜ (length (now words) ≡ tableWords) × (length (now levels) ≤ width) × (p .from < 2 ^ 32) × (p .from ≤ p .end) × (p .end - p .from < wordCount) ⌝ }
+    ensures { λ r. ⌜ JudgedFirst (now (names .entry)) (now (facts .entry)) (part (now (contexts .entry)) (p .from) (p .end - p .from)) (now (words .entry)) (now (levels .entry)) (p .params) (now (s .entry)) r ⌝ }
+{
+    let mut columns = [0u8; Columns::ENTRIES];
+    let mut table = [0u16; 65536];
+    columns::fill(&mut columns);
+    names::fill(names, contexts, &mut table, p.from, p.end);
+    judge_with(
+        s,
+        &columns,
+        &table,
+        contexts,
+        names,
+        facts,
+        words,
+        levels,
+        p,
+    )
+}
+
+// The expression that the bytes begin with, in the context of module m, so many parameters being known; with no tables, for a caller whose
+// stack has no room for them.
+pub fn judge_untabled(
+    s: &[u8],
+    contexts: &[u16],
+    names: &[u16],
+    facts: &[u16],
+    heads: &[u16],
+    words: &[u64],
+    levels: &[u8],
+    m: usize,
+    params: usize,
+) -> Walked
+    requires { ⌜ (length (now words) ≡ tableWords) × (length (now levels) ≤ width) × (m ≤ maxModules) ⌝ }
+    ensures { λ r. ⌜ JudgedFirst (now (names .entry)) (now (facts .entry)) (contextCodes (now (contexts .entry)) (now (heads .entry)) m) (now (words .entry)) (now (levels .entry)) params (now (s .entry)) r ⌝ }
+{
+    let first = m * Limits::CONTEXT;
+    let count = number_at(heads, Limits::PLACES + m) as usize;
+    let end = first + count;
+    let p = Place {
+        from: first,
+        end,
+        params,
+    };
+    judge_short(s, contexts, names, facts, words, levels, p)
+}
+
+// The same, with the tables where they pay.
+pub fn judge(
+    s: &[u8],
+    contexts: &[u16],
+    names: &[u16],
+    facts: &[u16],
+    heads: &[u16],
+    words: &[u64],
+    levels: &[u8],
+    m: usize,
+    params: usize,
+) -> Walked
+    requires { ⌜ (length (now words) ≡ tableWords) × (length (now levels) ≤ width) × (m ≤ maxModules) ⌝ }
+    ensures { λ r. ⌜ JudgedFirst (now (names .entry)) (now (facts .entry)) (contextCodes (now (contexts .entry)) (now (heads .entry)) m) (now (words .entry)) (now (levels .entry)) params (now (s .entry)) r ⌝ }
+{
+    let from = m * Limits::CONTEXT;
+    let count = number_at(heads, Limits::PLACES + m) as usize;
+    let p = Place {
+        from,
+        end: from + count,
+        params,
+    };
+    if s.len() < LONG {
+        judge_short(s, contexts, names, facts, words, levels, p)
+    } else {
+        judge_long(s, contexts, names, facts, words, levels, p)
+    }
 }

@@ -1,5 +1,6 @@
 pub mod Ends
 pub mod Asked
+pub mod Weighing
 pub mod Passing
 pub mod Looping
 pub mod Written

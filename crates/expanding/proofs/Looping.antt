@@ -10,7 +10,6 @@ use Prim.Native.Nat.{_-_, _<_, _≤_, max, min, suc, ℕ}
 use Rattle.limits.specs.Limits.{maxDefinitions}
 use Rattle.context.specs.Store.{Store}
 use Rattle.rules.specs.State.{State}
-use Rattle.strings.proofs.Reading.{stands}
 use Rattle.strings.specs.Read.{highestCall, stringAt}
 use Rattle.strings.specs.declared.Filled.{Filled}
 use Rattle.symbols.specs.Spell.{spell}
@@ -21,7 +20,7 @@ use Rattle.unfolding.proofs.AllRight.{RightBelow}
 use Rattle.spelling.specs.Strings.{ShapesFit, shapesOf}
 use Rattle.templates.specs.Told.{Told}
 use Rattle.expanding.proofs.Ends.{none-called}
-use Rattle.expanding.proofs.Passing.{held-low, held-near}
+use Rattle.expanding.proofs.Passing.{as-read, held-low}
 use Rattle.expanding.specs.Held.{CallsReplaced, Expands, Held, Whole}
 
 at-most : (gs : List Symbol) (x : ℕ) → x ≤ maxDefinitions → highestCall gs ≤ maxDefinitions → max x (highestCall gs) ≤ maxDefinitions
@@ -55,18 +54,13 @@ module _ (file refs : List ℕ) (v : Store) (declared : List ℕ) (n : ℕ) (sha
     pub going : (x : Told file refs v declared n) → ShapesFit shapes → RightBelow (x .state) (shapesOf shapes) (x .counts .definitions) → (p : ℕ) (t : Term)
         → Held (x .state) (shapesOf shapes) p t before len → AtCall (x .state) (shapesOf shapes) p t a size k
 
-  -- the string that the code reads
-  as-read : (x : Told file refs v declared n) (p : ℕ) (t : Term) (a : List ℕ) (size : ℕ) → size ≤ length a → (h : Held (x .state) (shapesOf shapes) p t a size)
-      → stringAt a 0 size ≡ spell (shapesOf shapes) (h .term)
-  as-read x p t a size l h = stands a 0 (spell (shapesOf shapes) (h .term)) size (h .spelt) l (held-near file refs v declared n x shapes p t a size h)
-
   pub going-start : len ≤ length before → (k : ℕ) → k ≡ highestCall (stringAt before 0 len) → Going before len k
   going-start l k e =
       record {
         long = refl;
         inside = l;
         few = rw e (highest-few (stringAt before 0 len));
-        going = λ x fit right p t h. record { held = h; highest = sym (e ∙ ap highestCall (as-read x p t before len l h)) };
+        going = λ x fit right p t h. record { held = h; highest = sym (e ∙ ap highestCall (as-read file refs v declared n x shapes p t before len h l)) };
       }
 
   module _ (a : List ℕ) (size k : ℕ) (here : Going a size k) where
@@ -80,7 +74,7 @@ module _ (file refs : List ℕ) (v : Store) (declared : List ℕ) (n : ℕ) (sha
           going = λ x fit right p t h.
               let q = here .going x fit right p t h in
               let z = step .replaced x fit right p t (q .held) (omega (arith, q .highest)) .yes fits in
-              let s = is-c ∙ ap highestCall (as-read x p t after (r .len) (omega (arith, step .within)) (z .held)) in
+              let s = is-c ∙ ap highestCall (as-read file refs v declared n x shapes p t after (r .len) (z .held) (omega (arith, step .within))) in
               record { held = z .held; highest = omega (arith, z .below, s) };
         }
 

@@ -17,16 +17,19 @@ use Rattle.laws.proofs.Replacing.{known-below}
 use Rattle.laws.proofs.Sound.{length-templates}
 use Rattle.rules.specs.State.{State, paramsOf, templatesOf}
 use Rattle.context.specs.Store.{Store}
+use Rattle.strings.proofs.Reading.{stands}
 use Rattle.strings.proofs.Standing.{highest-there}
-use Rattle.strings.specs.Read.{far, highestCall}
+use Rattle.strings.specs.Read.{far, highestCall, stringAt}
 use Rattle.strings.specs.declared.Filled.{Filled}
+use Rattle.symbols.proofs.Sizes.{byTwo}
 use Rattle.symbols.specs.Spell.{spell}
 use Rattle.symbols.specs.Symbol.{Symbol, begin, call, calls, code, end, name, number, par, size, var, wide}
+use Rattle.symbols.specs.Weight.{weight}
 use Rattle.theory.proofs.Lists.{never}
 use Rattle.theory.specs.Expand.{aritiesOf}
 use Rattle.theory.specs.Lists.{any}
 use Rattle.theory.specs.Term.{Term, WellFormed}
-use Rattle.unfolding.proofs.SameLaws.{same-trans, too-long}
+use Rattle.unfolding.proofs.SameLaws.{same-trans, too-heavy, too-long}
 use Rattle.unfolding.proofs.SpellAgree.{calls-none}
 use Rattle.unfolding.specs.CalleeTerm.{senseOf}
 use Rattle.spelling.specs.Strings.{shapesOf}
@@ -138,6 +141,10 @@ module _ (file refs : List ℕ) (v : Store) (declared : List ℕ) (n : ℕ) (x :
   pub held-near : far (spell σ (h .term)) ≡ false
   held-near = formed-none s σ p (h .term) (h .stands .formed) (λ n. leb 1280 n) (λ g l. lt-leb 1280 g (omega (arith, few)))
 
+  -- the string that the code reads
+  pub as-read : len ≤ length a → stringAt a 0 len ≡ spell σ (h .term)
+  as-read l = stands a 0 (spell σ (h .term)) len (h .spelt) l held-near
+
   -- so many parameters at most
   arities-few : (k m : ℕ) → aritiesOf (templatesOf s) k ≡ some m → m ≤ 6
   arities-few k m e =
@@ -147,6 +154,10 @@ module _ (file refs : List ℕ) (v : Store) (declared : List ℕ) (n : ℕ) (x :
 
   long-held : Long s p (h .term) → Long s p t
   long-held l = rw (h .same .asSizes (replicate p 2) []) l
+
+  -- the symbols without brackets take too many bytes
+  pub long-heavy : len ≤ length a → 65535 < weight byTwo (stringAt a 0 len) → Long s p t
+  long-heavy l e = long-held (too-heavy (senseOf s σ) p (h .term) (h .stands) (rw (as-read l) at e))
 
   module _ (d : ℕ) (highest : highestCall (spell σ (h .term)) ≡ suc d) where
     there : (any (calls (eqb d)) (spell σ (h .term)) ≡ true) × (d < maxDefinitions)
@@ -213,6 +224,16 @@ module _ (file refs : List ℕ) (v : Store) (declared : List ℕ) (n : ℕ) (x :
           over (inr w) = inr w
 
 -- What one step promises.
+pub step-heavy : (file refs : List ℕ) (v : Store) (declared : List ℕ) (n : ℕ) (shapes : List ℕ) (d : ℕ) (before : List ℕ) (len : ℕ) → len ≤ length before → (w : ℕ)
+    → w ≡ weight byTwo (stringAt before 0 len) → 65535 < w → (r : Filled) → r .fits ≡ false → r .len ≤ length before
+    → CallsReplaced file refs v declared n shapes d before len before r
+step-heavy file refs v declared n shapes d before len inside w weighed heavy r missed short =
+    record {
+      within = short;
+      replaced = λ x fit right p t h highest.
+          record { yes = λ z. never (sym z ∙ missed); no = λ z. long-heavy file refs v declared n x shapes p t before len h inside (omega arith) };
+    }
+
 module _ (file refs : List ℕ) (v : Store) (declared : List ℕ) (n : ℕ) (shapes : List ℕ) (d : ℕ) (before : List ℕ) (len : ℕ) (work : List ℕ) (y : Filled)
     (made : TemplateMade file refs v declared n d shapes work y) where
   pub step-no-template : y .fits ≡ false → (r : Filled) → r .fits ≡ false → r .len ≤ length before

@@ -5,14 +5,58 @@ ghost use Prim.Native.Nat.{_≤_, _<_, min};
 ghost use lib.ListN.{length};
 ghost use Rattle.limits.specs.Limits.{maxDefinitions};
 ghost use Rattle.context.specs.Store.{store};
+ghost use Rattle.strings.specs.Read.{stringAt, symbolOf};
+ghost use Rattle.symbols.proofs.Sizes.{byTwo};
+ghost use Rattle.symbols.specs.Weight.{symbolWeight, weight};
 ghost use Rattle.templates.specs.Taking.{workBytes};
 ghost use Rattle.expanding.specs.Held.{CallsReplaced, Expands};
+use limits::Limits;
 use replacing::rewrite;
 use strings::Filled;
+use strings::Sign;
 use strings::highest_call;
+use strings::symbol_at;
+use strings::width;
 use templates::making::template;
 
-// The calls of definition d replaced.
+fn lesser(a: usize, b: usize) -> usize
+    ensures { λ r. ⌜ r ≡ min a b ⌝ }
+{
+    if a < b { a } else { b }
+}
+
+// How many bytes of an expansion a symbol stands for, at least.
+fn symbol_weight(g: Sign) -> usize
+    ensures { λ r. ⌜ (r ≡ symbolWeight byTwo (symbolOf g)) × (r ≤ 4) ⌝ }
+{
+    match g {
+        Sign::Par(_) => 2,
+        Sign::Var(_) => 3,
+        Sign::Name(_, _) => 4,
+        Sign::Code(_) => 2,
+        Sign::Number(_) => 3,
+        Sign::Call(_) => 2,
+        Sign::Begin => 0,
+        Sign::End => 0,
+    }
+}
+
+// How many bytes the expansion of a string has, at least.
+fn string_weight(s: &[u8], n: usize) -> usize
+    ensures { λ r. ⌜ r ≡ weight byTwo (stringAt (now (s .entry)) 0 n) ⌝ }
+{
+    let end = lesser(n, s.len());
+    let mut i: usize = 0;
+    let mut q: usize = 0;
+    while i < end {
+        let g = symbol_at(s, i);
+        q += symbol_weight(g);
+        i += width(g);
+    }
+    q
+}
+
+// The calls of definition d replaced, unless the expansion is known to be too long.
 fn replace_calls(
     file: &[u8],
     refs: &[u16],
@@ -33,6 +77,13 @@ fn replace_calls(
     requires { ⌜ (d < maxDefinitions) × (length (now shapes) ≡ maxDefinitions) × (length (now a) ≡ workBytes) × (len ≤ length (now a)) × (length (now work) ≡ workBytes) × (length (now filled) ≡ workBytes) ⌝ }
     ensures { λ r. ⌜ CallsReplaced (now (file .entry)) (now (refs .entry)) (store (now (names .entry)) (now (facts .entry)) (now (contexts .entry)) (now (orders .entry)) (now (heads .entry))) (now (declared .entry)) n (now (shapes .entry)) d (now (a .entry)) len (now (a .exit)) r ⌝ }
 {
+    // Each pass costs a string's length: one that is too long already is not passed over again.
+    if Limits::EXPANSION_BYTES < string_weight(a, len) {
+        return Filled {
+            fits: false,
+            len: 0,
+        };
+    }
     let made = template(
         file,
         refs,
@@ -55,12 +106,6 @@ fn replace_calls(
         fits: false,
         len: 0,
     }
-}
-
-fn lesser(a: usize, b: usize) -> usize
-    ensures { λ r. ⌜ r ≡ min a b ⌝ }
-{
-    if a < b { a } else { b }
 }
 
 // The string of a term, its calls replaced until none is left.

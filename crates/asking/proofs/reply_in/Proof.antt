@@ -1,20 +1,20 @@
--- `reply_in`: causes 3 and 5, or what is left.
-use Rattle.asking.proofs.Replies.{reply-reading}
+-- `reply_in`: what is known early, or what is left.
+use Rattle.asking.proofs.Replies.{reply-early}
 use borrow.Author.Needs.{needs}
 use Rattle.asking.proofs.reply_in.Statement.{statement}
 use Rattle.asking.proofs.reply_in.Tie as tie
 
-reading-cause-requires : tie.Need-reading-cause-requires
-reading-cause-requires c κs = search needs
+early-cause-requires : tie.Need-early-cause-requires
+early-cause-requires c κs = search needs
 
 returns : tie.Need-returns
-returns c = reply-reading _ _ _ _ _ _ _ _ _ (λ i. c .before .before .before .before .before .before .before .before .shared-slice-known .given i .fits) _ (search needs) (search needs)
+returns c = reply-early _ _ _ _ _ _ _ _ _ (λ i. c .before .before .before .before .before .before .before .before .shared-slice-known .given i .fits) _ (search needs) (search needs)
 
-spelt-reply-requires : tie.Need-spelt-reply-requires
-spelt-reply-requires c κs = search needs
+walked-reply-requires : tie.Need-walked-reply-requires
+walked-reply-requires c κs = search needs
 
 returns-2 : tie.Need-returns-2
 returns-2 c = search needs
 
 pub reply-in-spec : {M : Type 1} → statement M
-reply-in-spec = tie.close (tie.spec reading-cause-requires returns spelt-reply-requires returns-2)
+reply-in-spec = tie.close (tie.spec early-cause-requires returns walked-reply-requires returns-2)

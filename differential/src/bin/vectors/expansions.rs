@@ -11,11 +11,11 @@ use differential::syntax::{
 };
 use std::ops::Range;
 
-/// How often calls double that nest deep in a result. An output has room for 14; as many as take a
-/// fraction of a second.
-const DEEP: u16 = 11;
-/// The same where each is a call of the last of two hundred names for one operator; room for 13.
-const ALIASED: u16 = 7;
+/// How often calls double that nest deep in a result: as often as an output has room for.
+const DEEP: u16 = 14;
+/// The same where each is a call of the last of two hundred names for one operator; room for 13, but the
+/// gate runs these too.
+const ALIASED: u16 = 11;
 
 /// A call on a file, with a name to find it by.
 type Named = (String, Vec<u8>, Call);

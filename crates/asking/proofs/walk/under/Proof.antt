@@ -1,6 +1,6 @@
 -- `walk::under`: the last argument, or one before it.
-use Rattle.tokens.proofs.Places.{tests}
 use borrow.Author.Needs.{needs}
+use Rattle.tokens.proofs.Places.{tests}
 use Rattle.asking.proofs.walk.under.Statement.{statement}
 use Rattle.asking.proofs.walk.under.Tie as tie
 

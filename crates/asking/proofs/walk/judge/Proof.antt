@@ -1,0 +1,46 @@
+-- `walk::judge`: the codes of the module, by place.
+use Rattle.asking.proofs.Naming.{in-module}
+use borrow.Author.Needs.{needs}
+use Rattle.asking.proofs.walk.judge.Statement.{statement}
+use Rattle.asking.proofs.walk.judge.Tie as tie
+
+mul-from : tie.Need-mul-from
+mul-from c = search needs
+
+add-number-at : tie.Need-add-number-at
+add-number-at c = search needs
+
+number-at-requires : tie.Need-number-at-requires
+number-at-requires c κs = search needs
+
+cast-count : tie.Need-cast-count
+cast-count c = search needs
+
+add-if1 : tie.Need-add-if1
+add-if1 c = search needs
+
+judge-short-requires : tie.Need-judge-short-requires
+judge-short-requires c κs = search needs
+
+judge-long-requires : tie.Need-judge-long-requires
+judge-long-requires c κs = search needs
+
+returns : tie.Need-returns
+returns c = search in-module
+
+returns-2 : tie.Need-returns-2
+returns-2 c = search in-module
+
+pub judge-spec : {M : Type 1} → statement M
+judge-spec =
+    tie.close
+    (tie.spec
+    mul-from
+    add-number-at
+    number-at-requires
+    cast-count
+    add-if1
+    judge-short-requires
+    judge-long-requires
+    returns
+    returns-2)

@@ -1,0 +1,14 @@
+-- `walk::two`: the answers joined.
+use Rattle.asking.proofs.Moving.{two-is}
+use borrow.Author.Needs.{needs}
+use Rattle.asking.proofs.walk.two.Statement.{statement}
+use Rattle.asking.proofs.walk.two.Tie as tie
+
+both-requires : tie.Need-both-requires
+both-requires c κs = search needs
+
+returns : tie.Need-returns
+returns c = search two-is
+
+pub two-spec : {M : Type 1} → statement M
+two-spec = tie.close (tie.spec both-requires returns)
