@@ -5,22 +5,25 @@ use std::path::PathBuf;
 
 const EXAMPLES: &str = "\
 Examples:
-  rafterclary check panel.bin              accepted or refused, and why
-  rafterclary check samples/*.bin          one line for each file
-  parser panel | rafterclary check         a tagged file from a pipe
-  rafterclary card panel.tla 'Head!Depth'  a definition's card as a table
-  rafterclary level panel.tla Panel \"scale + p\" p=1
-  rafterclary alike panel.bin 0 7          whether two definitions have one card
-  rafterclary body panel.bin 7             the bytes that hold a definition's body
-  rafterclary expand panel.tla Panel \"Head!Depth(p)\" --params p
-  rafterclary list --json panel.bin        every card, for a script
-  rafterclary convert panel.tla -o panel.bin
-  rafterclary explain 14                   what refusal 14 means
+  rafterclary check samples/depth-accident.tla        accepted or refused, and why
+  rafterclary check samples/*.bin                     one line for each file, reasons on standard error
+  rafterclary check < samples/channel.bin             a tagged file from a pipe
+  rafterclary list samples/channel.tla --names        all definitions with their cards
+  rafterclary list samples/channel.bin --json         the same for a script
+  rafterclary card samples/channel.tla 0              a card as a table
+  rafterclary level samples/depth-lawful.tla Panel \"draghead' + p\" p=1
+  rafterclary alike samples/channel.bin 0 7           whether two definitions have one card
+  rafterclary body samples/channel.bin 7              the bytes that hold a definition's body
+  rafterclary expand samples/depth-lawful.tla Panel 'Head!TooDeep(p)' --params p
+  rafterclary show samples/channel.bin                readable modules
+  rafterclary explain 14                              what refusal 14 means
+  rafterclary convert samples/channel.tla -o channel.bin
 
-A FILE is a tagged file; if its name ends in .tla it is text in the readable notation and is
-converted first. `-` is standard input. `--as` overrides the ending.
+The samples are in the checkout. A FILE is a tagged file; if its name ends in .tla it is text in
+the readable notation and is converted first. `-` is standard input. `--as` overrides the ending.
 
-Exit status: 0 accepted, 1 refused, 2 misuse (bad arguments, a file that cannot be read).";
+Exit status: 0 accepted or answered, 1 refused, 2 misuse (bad arguments, a file or an expression
+that cannot be read). With many files the worst counts.";
 
 const LEVEL_EXAMPLES: &str = "\
 Examples:
@@ -60,6 +63,15 @@ operator drops is gone. An expansion of more than 65,535 bytes is refused by cau
 a spelling are n1, n2 and so on.
 
 Exit status: 0 answered, level-correct or not; 1 refused, 2 misuse.";
+
+const CONVERT_EXAMPLES: &str = "\
+Examples:
+  rafterclary convert samples/channel.tla -o channel.bin
+  rafterclary convert samples/channel.bin
+
+A tagged file has no spellings: in its text names are n1, n2 and so on.
+
+Exit status: 0 converted, 2 misuse. A file is converted whether it is lawful or not.";
 
 /// The proved level checker for TLA+ modules.
 #[derive(Parser)]
@@ -129,6 +141,7 @@ pub enum Command {
     },
     /// Draw the level card of one definition
     Card {
+        /// A tagged file, or text if its name ends in .tla; `-` is standard input
         file: PathBuf,
         /// Its number, or NAME or INSTANCE!NAME, with MODULE: before it where several have the name
         definition: String,
@@ -136,6 +149,7 @@ pub enum Command {
     /// Tell the level of an expression at the end of a module
     #[command(after_help = LEVEL_EXAMPLES)]
     Level {
+        /// A tagged file, or text if its name ends in .tla; `-` is standard input
         file: PathBuf,
         /// The module's name, or its number
         module: String,
@@ -151,6 +165,7 @@ pub enum Command {
     /// Tell whether two definitions are alike: as many parameters, and the same card
     #[command(after_help = ALIKE_EXAMPLES)]
     Alike {
+        /// A tagged file, or text if its name ends in .tla; `-` is standard input
         file: PathBuf,
         /// Number or name, as of `card`
         first: String,
@@ -160,6 +175,7 @@ pub enum Command {
     /// Print the part of the file that holds a definition's body, for a brought one the original's
     #[command(after_help = BODY_EXAMPLES)]
     Body {
+        /// A tagged file, or text if its name ends in .tla; `-` is standard input
         file: PathBuf,
         /// Number or name, as of `card`
         definition: String,
@@ -167,6 +183,7 @@ pub enum Command {
     /// Expand an expression at the end of a module: no defined name is left in it
     #[command(after_help = EXPAND_EXAMPLES)]
     Expand {
+        /// A tagged file, or text if its name ends in .tla; `-` is standard input
         file: PathBuf,
         /// The module's name, or its number
         module: String,
@@ -180,7 +197,10 @@ pub enum Command {
         hex: bool,
     },
     /// Show a file as readable modules, with field numbers and offsets
-    Show { file: PathBuf },
+    Show {
+        /// A tagged file, or text if its name ends in .tla; `-` is standard input
+        file: PathBuf,
+    },
     /// Tell what a refusal means, with the smallest file that shows it
     Explain {
         /// The number of the refusal
@@ -188,7 +208,9 @@ pub enum Command {
         number: u32,
     },
     /// Convert text to a tagged file, and a tagged file to text
+    #[command(after_help = CONVERT_EXAMPLES)]
     Convert {
+        /// A tagged file, or text if its name ends in .tla; `-` is standard input
         file: PathBuf,
         /// Where to write; standard output if it is not given
         #[arg(short, long, value_name = "FILE")]

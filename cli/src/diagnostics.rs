@@ -1,6 +1,6 @@
 //! Pointing into the readable source.
 
-use crate::args::{Color, Form};
+use crate::args::Color;
 use crate::finding::{Finding, Focus, Mark};
 use crate::input::Input;
 use crate::Misuse;
@@ -60,11 +60,7 @@ pub fn refused(
         .with_message(&finding.message)
         .with_labels(labels)
         .with_notes(finding.notes.clone());
-    let name = match input.form {
-        Form::Text => input.name.clone(),
-        Form::Tagged => format!("{}, shown as text", input.name),
-    };
-    emit(&name, &input.source.text, &diagnostic, colors)
+    emit(&input.called, &input.source.text, &diagnostic, colors)
 }
 
 fn span(input: &Input, mark: &Mark) -> Range<usize> {

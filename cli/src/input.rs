@@ -13,6 +13,10 @@ use std::path::Path;
 pub struct Input {
     /// What it is called in what is printed.
     pub name: String,
+    /// What its text is called.
+    pub called: String,
+    /// Whether that text was given, and not made of the bytes.
+    pub given: bool,
     pub form: Form,
     /// The tagged bytes.
     pub bytes: Vec<u8>,
@@ -52,9 +56,13 @@ impl Input {
                 let (called, text) = self::content(source)?;
                 let input = Input::text(called, text, how.colors)?;
                 if input.bytes == content {
-                    return Ok(input);
+                    return Ok(Input {
+                        name,
+                        form: Form::Tagged,
+                        ..input
+                    });
                 }
-                let called = input.name;
+                let called = input.called;
                 let message = format!("{name}: {called} converts to other bytes");
                 Err(Misuse::Message(message))
             }
@@ -76,6 +84,8 @@ impl Input {
             Err(_) => Source::default(),
         };
         Input {
+            called: format!("{name}, shown as text"),
+            given: false,
             name,
             form: Form::Tagged,
             offsets: offsets(&file.fields),
@@ -96,12 +106,14 @@ impl Input {
             Err(fault) => {
                 let at = source::offset_of(&text, fault.line, fault.column);
                 diagnostics::not_a_text(&name, &text, at, &fault.message, colors)?;
-                return Err(Misuse::Silent);
+                return Err(Misuse::Told(format!("{name}: {fault}")));
             }
         };
         let bytes = notation::encode(&parsed.file)
             .map_err(|fault| Misuse::Message(format!("{name}: {fault}")))?;
         Ok(Input {
+            called: name.clone(),
+            given: true,
             name,
             form: Form::Text,
             offsets: offsets(&parsed.file.fields),

@@ -53,7 +53,7 @@ pub struct Field {
     pub offset: usize,
     /// `null` outside a module.
     pub module: Option<String>,
-    /// The line in the text, for a file given as text.
+    /// The line in the text, where that was given.
     pub line: Option<usize>,
 }
 
@@ -131,12 +131,11 @@ impl Field {
         }
         let text = &input.source.text;
         let line = || text[..input.source.start(place)].matches('\n').count() + 1;
-        let given = input.form == crate::args::Form::Text;
         Some(Field {
             kind: input.kind(place),
             offset: *input.offsets.get(place)?,
             module: input.module_at(place).map(|name| input.module(name)),
-            line: given.then(line),
+            line: input.given.then(line),
         })
     }
 }

@@ -26,8 +26,8 @@ use std::process::ExitCode;
 
 /// What keeps a command from doing what it was asked: exit status 2.
 pub enum Misuse {
-    /// Told already, or nothing to tell.
-    Silent,
+    /// Told to people already, with a place; the same in one line.
+    Told(String),
     Message(String),
     Writing(io::Error),
 }
@@ -52,7 +52,7 @@ fn main() -> ExitCode {
         Ok(status) => status,
         // Whoever reads the output has seen enough.
         Err(Misuse::Writing(fault)) if fault.kind() == io::ErrorKind::BrokenPipe => Status::Misused,
-        Err(Misuse::Silent) => Status::Misused,
+        Err(Misuse::Told(_)) => Status::Misused,
         Err(Misuse::Message(message)) => {
             eprintln!("rafterclary: {message}");
             Status::Misused

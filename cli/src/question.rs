@@ -64,7 +64,7 @@ impl Question {
                 Err(fault) => {
                     let at = source::offset_of(text, fault.line, fault.column);
                     diagnostics::not_a_text(NAME, text, at, &fault.message, colors)?;
-                    return Err(Misuse::Silent);
+                    return Err(Misuse::Told(format!("{NAME}: {fault}")));
                 }
             },
             Given::Bytes(digits) => {
@@ -100,6 +100,8 @@ impl Question {
         });
         let asked = Input {
             name: NAME.to_string(),
+            called: NAME.to_string(),
+            given: true,
             form: Form::Text,
             bytes: Vec::new(),
             offsets: Vec::new(),

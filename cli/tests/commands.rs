@@ -2,7 +2,7 @@
 
 mod common;
 
-use common::{run, run_with};
+use common::{run, run_with, words};
 use serde_json::Value;
 
 #[test]
@@ -106,6 +106,13 @@ fn misuse() {
     );
     assert_eq!((text.status, text.text()), (2, ""));
     assert!(text.err.contains("standard input:3:1"), "{}", text.err);
+    let report = &run_with(&["check", "--json", "--as", "text", "-"], b"D == (1").json()[0];
+    assert_eq!(report["verdict"], "unreadable");
+    let error = report["error"].as_str().expect("words");
+    assert!(
+        error.starts_with("standard input: line 1, column 8: "),
+        "{error}"
+    );
     let two = b"---- MODULE M ----\nD == 1\n====\n---- MODULE N ----\nD == 2\n====\n";
     let several = run_with(&["card", "--as", "text", "-", "D"], two);
     assert_eq!(several.status, 2);
@@ -134,4 +141,27 @@ fn help() {
     ] {
         assert!(help.text().contains(word), "{word}");
     }
+}
+
+/// Every example of these helps that writes no file and needs no shell is no misuse.
+#[test]
+fn examples() {
+    let mut ran = 0;
+    for command in [&[][..], &["convert"]] {
+        let help = run(&[command, &["--help"]].concat());
+        for line in help.text().lines() {
+            let Some(example) = line.strip_prefix("  rafterclary ") else {
+                continue;
+            };
+            if ["*", "<", " -o "].iter().any(|sign| example.contains(sign)) {
+                continue;
+            }
+            let example = example.split("   ").next().expect("a first part");
+            let words = words(example);
+            let told = run(&words.iter().map(String::as_str).collect::<Vec<_>>());
+            assert_ne!(told.status, 2, "{example}: {}", told.err);
+            ran += 1;
+        }
+    }
+    assert_eq!(ran, 11);
 }

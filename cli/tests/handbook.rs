@@ -2,23 +2,8 @@
 
 mod common;
 
-use common::{root, run};
+use common::{root, run, words};
 use std::fs;
-
-/// The words of a command as a shell takes them, as far as the handbook's need it.
-fn words(command: &str) -> Vec<String> {
-    let mut words = vec![String::new()];
-    let mut quote = None;
-    for c in command.chars() {
-        match quote {
-            Some(open) if c == open => quote = None,
-            None if c == '"' || c == '\'' => quote = Some(c),
-            None if c == ' ' => words.push(String::new()),
-            _ => words.last_mut().expect("a word").push(c),
-        }
-    }
-    words
-}
 
 #[test]
 fn commands_print_what_it_shows() {

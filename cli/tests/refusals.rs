@@ -42,9 +42,39 @@ fn the_source_of_a_tagged_file() {
     assert!(named
         .text()
         .contains("the variable scale stands for the constant unit"));
+    assert!(named.text().starts_with("samples/depth-accident.bin: "));
+    assert!(named.err.contains("samples/depth-accident.tla:18:29"));
+    let json = &run(&[
+        "check",
+        "--json",
+        "samples/depth-accident.bin",
+        source[0],
+        source[1],
+    ])
+    .json()[0];
+    assert_eq!(json["file"], "samples/depth-accident.bin");
+    assert_eq!(json["field"]["line"], 18);
+    let back = run(&[
+        "convert",
+        "samples/depth-accident.bin",
+        source[0],
+        source[1],
+    ]);
+    assert!(back.text().contains("VARIABLES draghead, scale"));
     let other = run(&["check", "samples/depth-lawful.bin", source[0], source[1]]);
     assert_eq!(other.status, 2);
     assert!(other.err.contains("converts to other bytes"));
+}
+
+/// Text that is taken for a tagged file is told so.
+#[test]
+fn text_without_its_ending() {
+    let check = run_with(&["check"], b"---- MODULE M ----\n====\n");
+    assert_eq!(check.status, 1);
+    assert!(check.text().contains("byte 0: no field has the tag 45"));
+    assert!(check.err.contains("`--as text`"), "{}", check.err);
+    let check = run_with(&["check"], &[0]);
+    assert!(!check.err.contains("`--as text`"), "{}", check.err);
 }
 
 #[test]

@@ -97,17 +97,17 @@ fn named(files: &[PathBuf]) -> Result<Vec<PathBuf>, Misuse> {
 fn read(options: Options, path: &Path) -> Result<Option<Input>, Misuse> {
     match Input::read(path, options.reading) {
         Ok(input) => Ok(Some(input)),
-        Err(Misuse::Writing(fault)) => Err(Misuse::Writing(fault)),
         Err(fault) => {
-            let error = match fault {
-                Misuse::Message(message) => message,
-                _ => "not in the readable notation".to_string(),
+            let (error, told) = match fault {
+                Misuse::Message(message) => (message, false),
+                Misuse::Told(message) => (message, true),
+                Misuse::Writing(fault) => return Err(Misuse::Writing(fault)),
             };
             if options.json {
                 let file = &path.display().to_string();
                 let verdict = Verdict::Unreadable { error };
                 put_json(&Report { file, verdict })?;
-            } else {
+            } else if !told {
                 eprintln!("rafterclary: {error}");
             }
             Ok(None)

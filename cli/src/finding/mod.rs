@@ -168,7 +168,17 @@ fn size(input: &Input) -> Finding {
 fn layout(input: &Input, place: usize) -> Option<Finding> {
     let fault = input.fault.filter(|fault| fault.field == place)?;
     let message = format!("byte {}: {}", fault.offset, fault.reason);
-    Some(Finding::new(message))
+    let finding = Finding::new(message);
+    if fault.offset == 0 && looks_like_text(&input.bytes) {
+        return Some(finding.note("this looks like text: `--as text` reads the readable notation"));
+    }
+    Some(finding)
+}
+
+/// Tags are control characters, so a tagged file begins with one.
+fn looks_like_text(bytes: &[u8]) -> bool {
+    let mut first = bytes.iter().take(64);
+    first.all(|byte| byte.is_ascii_whitespace() || !byte.is_ascii_control())
 }
 
 fn order(input: &Input, place: usize, field: Option<&Field>) -> Finding {

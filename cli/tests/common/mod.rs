@@ -78,3 +78,19 @@ pub fn samples() -> Vec<String> {
 pub fn sample(name: &str) -> Vec<u8> {
     fs::read(root().join("samples").join(name)).expect(name)
 }
+
+/// The words of a command as a shell takes them, as far as those of the documents need it.
+#[allow(dead_code)]
+pub fn words(command: &str) -> Vec<String> {
+    let mut words = vec![String::new()];
+    let mut quote = None;
+    for c in command.chars() {
+        match quote {
+            Some(open) if c == open => quote = None,
+            None if c == '"' || c == '\'' => quote = Some(c),
+            None if c == ' ' => words.push(String::new()),
+            _ => words.last_mut().expect("a word").push(c),
+        }
+    }
+    words
+}
