@@ -4,6 +4,7 @@ use crate::accepted::LARGEST;
 use crate::cases::Call;
 use crate::checker::Checker;
 use crate::expansions;
+use crate::long;
 use crate::nesting;
 use crate::queries::of_length;
 use crate::syntax::{
@@ -77,7 +78,7 @@ pub(crate) fn expand(module: u16, expr: Vec<u8>, room: usize) -> Call {
     }
 }
 
-fn level(module: u16, expr: Vec<u8>) -> Call {
+pub(crate) fn level(module: u16, expr: Vec<u8>) -> Call {
     Call::Level {
         module,
         expr,
@@ -390,7 +391,7 @@ fn named_instances(modules: u16) -> Vec<u8> {
 }
 
 /// As many instances, declarations and definitions as there is room for; the last definition's name.
-fn full_tables() -> (Vec<u8>, u16) {
+pub(crate) fn full_tables() -> (Vec<u8>, u16) {
     let mut fields = vec![Field::Module(1), Field::End, Field::Module(2)];
     fields.extend((1..=64).map(Field::Variable));
     fields.extend((1_000..3_800).map(|name| instance(name, 0, 1, &[])));
@@ -399,8 +400,8 @@ fn full_tables() -> (Vec<u8>, u16) {
     (syntax::file(&fields), 5_255)
 }
 
-/// The families that are slow to answer if they are answered badly. `large` adds queries of 16 to
-/// 64 MB.
+/// The families that are slow to answer if they are answered badly. `large` adds queries of 30
+/// to 64 MB.
 pub fn queries(large: bool) -> Vec<Family> {
     let x = || n(500, &[]);
     let room = 65_535;
@@ -408,6 +409,7 @@ pub fn queries(large: bool) -> Vec<Family> {
     all.extend(brought_queries());
     all.extend(expansions::all(large));
     all.extend(nesting::all());
+    all.extend(long::all(large));
     all.extend([
         family(
             "i: identity tower",
@@ -472,43 +474,6 @@ pub fn queries(large: bool) -> Vec<Family> {
         &syntax::file(&fields),
         expand(16, brought(9, 3, &[lit(1), lit(2), lit(3)]).bytes(), room),
     ));
-    // o, and g without end: names looked up where as many stand as there is room for.
-    let (file, last) = full_tables();
-    let names = doubled(16, &prime(n(last, &[])));
-    all.push(family(
-        "o: 512 KB of names, full tables",
-        &file,
-        level(2, names),
-    ));
-    let file = syntax::file(&[
-        Field::Module(1),
-        Field::Variable(1),
-        Field::Definition(2, 2, p(1)),
-        Field::End,
-    ]);
-    let deep = |bytes: usize| [[4, 16].repeat(bytes / 2), lit(0).bytes()].concat();
-    let wide = tree_of(4 << 20, &|_| n(1, &[]));
-    all.push(family("o: 4 MB wide", &file, level(1, wide.bytes())));
-    let unknown = doubled(19, &prime(n(9, &[])));
-    all.push(family(
-        "o: 4 MB of an unknown name",
-        &file,
-        level(1, unknown),
-    ));
-    let cut = [&doubled(19, &prime(n(1, &[]))), &[5][..]].concat();
-    all.push(family("o: 4 MB with a byte too many", &file, level(1, cut)));
-    let dropped = n(2, &[wide, lit(8)]).bytes();
-    all.push(family("o: 4 MB dropped", &file, expand(1, dropped, room)));
-    all.push(family("o: 4 MB deep", &file, level(1, deep(4 << 20))));
-    if large {
-        all.push(family("o: 64 MB deep", &file, level(1, deep(64 << 20))));
-        let wide = doubled(23, &prime(n(1, &[])));
-        all.push(family("o: 64 MB wide", &file, level(1, wide)));
-        let wide = doubled(21, &prime(n(1, &[])));
-        let dropped = [&[2, 0, 2, 2], &wide[..], &lit(8).bytes()].concat();
-        all.push(family("o: 16 MB dropped", &file, expand(1, dropped, room)));
-        all.push(family("o: 16 MB too long", &file, expand(1, wide, room)));
-    }
     for (length, room) in [
         (65_534, 65_534),
         (65_535, 65_535),
@@ -520,13 +485,6 @@ pub fn queries(large: bool) -> Vec<Family> {
         all.push(family(&label, &file, expand(1, expr, room)));
     }
     all
-}
-
-/// The bytes of ∧ over two copies of itself, so many times over, around an expression.
-fn doubled(times: usize, leaf: &Expr) -> Vec<u8> {
-    (0..times).fold(leaf.bytes(), |inner, _| {
-        [&[4, 49], &inner[..], &inner[..]].concat()
-    })
 }
 
 /// i: towers, asked for everything but an expansion.

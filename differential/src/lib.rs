@@ -13,6 +13,7 @@ pub mod families;
 pub mod faults;
 pub mod faulty;
 pub mod limits;
+pub mod long;
 pub mod model;
 pub mod nesting;
 #[cfg(feature = "proved")]
