@@ -205,7 +205,7 @@ fn expression(expr: &[u8]) -> String {
     match Expr::read(expr) {
         Some(read) if expr.len() <= 2_000 => format!("{read} [{}]", hex(expr)),
         _ if expr.len() <= 2_000 => format!("[{}]", hex(expr)),
-        _ => format!("of {} bytes", expr.len()),
+        _ => format!("{} bytes", expr.len()),
     }
 }
 
@@ -225,7 +225,7 @@ impl Display for Call {
                 room,
             } => write!(
                 f,
-                "expand in {module} over {params} into {room} bytes {}",
+                "expand in {module} over {params} into {room} bytes, {}",
                 expression(expr)
             ),
             Call::Alike { a, b } => write!(f, "alike {a} {b}"),

@@ -21,21 +21,17 @@ fn wide(bytes: usize, leaf: &Expr) -> Vec<u8> {
     doubled((bytes / both).max(1).ilog2() as usize, leaf)
 }
 
-/// What does not depend on the length.
+/// Each of 4 MB, and if `large` each of 64 MB too.
 pub fn all(large: bool) -> Vec<Family> {
-    let mut all = few();
+    let (file, last) = full_tables();
+    let names = doubled(16, &prime(n(last, &[])));
+    let label = "o: 512 KB of names, full tables";
+    let mut all = vec![family(label, &file, level(2, names))];
     all.extend(of_length(4 << 20, "4 MB"));
     if large {
         all.extend(of_length(64 << 20, "64 MB"));
     }
     all
-}
-
-fn few() -> Vec<Family> {
-    let (file, last) = full_tables();
-    let names = doubled(16, &prime(n(last, &[])));
-    let label = "o: 512 KB of names, full tables";
-    vec![family(label, &file, level(2, names))]
 }
 
 /// A variable, 1; a definition that drops its first parameter, 2; one with as many demands on its
@@ -149,6 +145,10 @@ fn of_length(bytes: usize, size: &str) -> Vec<Family> {
     add(&file, "of calls with demands", levels);
     let call = expand_over(1, dropped(calls), 3);
     add(&file, "of calls with demands, dropped", call);
+
+    let passed = (0..8).fold(p(0), |inner, _| n(4, &[inner]));
+    let call = expand_over(1, wide(bytes, &passed), 1);
+    add(&file, "of identities, too long", call);
 
     let binders = wide(bytes, &op(132, &[lit(1), op(128, &[and(p(0), p(0))])]));
     add(&file, "of binders", over_parameters(1, binders, &[1]));

@@ -8,6 +8,7 @@
 //! Numbers are three bytes, most significant first. The file `index` names them.
 
 mod expansions;
+mod long;
 mod queries;
 
 use differential::checker::refusal;

@@ -1,7 +1,7 @@
 //! Queries for the gate: the trial lines of paper 01, both sides of every rule about a query, the
 //! samples, and generated ones of every kind of answer.
 
-use crate::{expansions, marked, module, reply_line, sample_files, three, MEMORY, OUTPUT};
+use crate::{expansions, long, marked, module, reply_line, sample_files, three, MEMORY, OUTPUT};
 use differential::cases::{Call, Case};
 use differential::checker::Reference;
 use differential::model::Model;
@@ -612,6 +612,7 @@ pub fn all(samples: &Path) -> io::Result<Vec<Query>> {
         add(label.into(), &file, call, 40_000);
     }
     all.extend(expansions::all());
+    all.extend(long::all());
     all.extend(of_samples(samples)?);
     all.extend(generated());
     Ok(all)
