@@ -21,13 +21,13 @@ fn wide(bytes: usize, leaf: &Expr) -> Vec<u8> {
     doubled((bytes / both).max(1).ilog2() as usize, leaf)
 }
 
-/// Each of 4 MB, and if `large` each of 64 MB too.
+/// Each of 256 KB, and if `large` each of 64 MB too.
 pub fn all(large: bool) -> Vec<Family> {
     let (file, last) = full_tables();
     let names = doubled(16, &prime(n(last, &[])));
     let label = "o: 512 KB of names, full tables";
     let mut all = vec![family(label, &file, level(2, names))];
-    all.extend(of_length(4 << 20, "4 MB"));
+    all.extend(of_length(256 << 10, "256 KB"));
     if large {
         all.extend(of_length(64 << 20, "64 MB"));
     }
