@@ -1,4 +1,5 @@
 pub mod Places
 pub mod Packing
 pub mod PackingExpansion
+pub mod Unpacking
 pub mod Demand3

@@ -39,12 +39,12 @@ module _ {A : Type 0} (o : Outcome A) (after : List ℕ) (x : Answer A) (e : ans
   left = ap (λ (y : Answer A). y .memory) e
 
 -- CHECK
-definitions-few : (file memory : List ℕ) (n : ℕ) → check file memory .reply ≡ result n → n ≤ maxDefinitions
+pub definitions-few : (file memory : List ℕ) (n : ℕ) → check file memory .reply ≡ result n → n ≤ maxDefinitions
 definitions-few file memory n e =
     andThen-result (checked file memory) (λ s. result (length (s .definitions))) n e λ s a i.
     omega (arith, result-injective i, within-file file s (by-fields file memory s a) .definitions)
 
-check-place : (file memory : List ℕ) (c p : ℕ) → check file memory .reply ≡ refusal c p → p ≤ fileBytes
+pub check-place : (file memory : List ℕ) (c p : ℕ) → check file memory .reply ≡ refusal c p → p ≤ fileBytes
 check-place file memory c p e =
     andThen-refusal (checked file memory) (λ s. result (length (s .definitions))) c p e (λ q. file-place file memory c p q)
     (λ s a i. not-refusal (length (s .definitions)) c p i)

@@ -1,6 +1,7 @@
 -- A reply as one number, as the C interface hands it over.
 use mathlib.Core.Bool.{Bool, cond}
-use Prim.Native.Nat.{ℕ, _+_, _*_, _^_, _≤_}
+use Prim.Native.Nat.{ℕ, _+_, _-_, _*_, _/_, _%_, _^_, _≤_}
+use lib.Dec.{eqb, ltb}
 use Rattle.limits.specs.Limits.{expansionBytes, fileBytes, maxDefinitions}
 use Rattle.rules.specs.Run.{Outcome, refusal, result}
 
@@ -22,6 +23,16 @@ packedTruth (refusal c p) = packedRefusal c p
 abbrev pub packedSpan : Outcome (ℕ × ℕ) → ℕ
 packedSpan (result part) = 65536 * part .0 + part .1
 packedSpan (refusal c p) = 2 ^ 63 + 65536 * c + p
+
+-- AND BACK: every reply of the archive is read off its number (proofs/Unpacking).
+abbrev pub unpacked : ℕ → Outcome ℕ
+unpacked n = cond (ltb n (2 ^ 31)) (result n) (refusal ((n - 2 ^ 31) / 65536) (n % 65536))
+
+abbrev pub unpackedTruth : ℕ → Outcome Bool
+unpackedTruth n = cond (ltb n (2 ^ 31)) (result (eqb n 1)) (refusal ((n - 2 ^ 31) / 65536) (n % 65536))
+
+abbrev pub unpackedSpan : ℕ → Outcome (ℕ × ℕ)
+unpackedSpan n = cond (ltb n (2 ^ 63)) (result (n / 65536, n % 65536)) (refusal ((n - 2 ^ 63) / 65536) (n % 65536))
 
 -- what every reply keeps to, so that it can be packed: a bound on the result, and on the place of a refusal
 abbrev pub Packable : {A : Type 0} → (A → Type 0) → Outcome A → Type 0
