@@ -1,21 +1,23 @@
 -- The level of one token at the levels of its arguments: one lemma for each way through the code.
 use borrow.Author.Tests.{eqb-false, eqb-true, lt-leb, lt-ltb, ltb-false, ltb-true, ne-eqb}
-use mathlib.Core.Bool.{Bool, and-true, cond, false, true, _||_}
+use mathlib.Core.Bool.{Bool, and-true, cond, false, not, true, _||_}
 use mathlib.Core.List.{List, [], _∷_}
-use mathlib.Core.Path.{_∙_, _≡_, ap, refl, sym}
+use mathlib.Core.Path.{_∙_, _≡_, ap, ap₂, refl, subst, sym}
 use Prim.Native.Nat.{ℕ, zero, suc, _+_, _-_, _/_, _%_, _^_, _<_, _≤_, max, min}
 use native.Mathlib.Nat.{zero-add}
 use native.Mathlib.Omega.{arith}
 use lib.Dec.{eqb, leb, ltb}
-use lib.ListN.{List·getD-eq-default, getD, length, take}
+use lib.ListN.{List·getD-eq-default, getD, length, replicate, take}
 use Rattle.limits.specs.Limits.{maxArity, maxDefinitions}
 use Rattle.theory.specs.Level.{builtinLevel, highest, row}
 use Rattle.theory.specs.Lists.{All}
 use Rattle.theory.proofs.Levels.{IsLevel}
 use Rattle.rows.specs.Rows.{arityOf, maskBitsOf, resultOf}
 use Rattle.tokens.specs.Token.{argumentsOf}
+use Rattle.tokens.proofs.Places.{never}
 use Rattle.tokens.specs.declared.Token.{Token}
 use Rattle.tokens.specs.declared.Token.the-variants.{Parameter, Bound, Name, InstanceOperator, BuiltIn, Literal, NoToken}
+use Rattle.texts.specs.Noted.{isName}
 use Rattle.texts.specs.Text.{named}
 use Rattle.forms.specs.Forms.{Gives, levelAt, passed, takes, width}
 use Rattle.forms.specs.Numbers.{RowNumbers, demandOf}
@@ -28,11 +30,15 @@ use Rattle.levels.specs.Tables.{sceneOf}
 use Rattle.levels.proofs.Built.{row-numbers}
 use Rattle.levels.proofs.Named.{numbers-at}
 use Rattle.levels.proofs.Single.{bit-past}
-use Rattle.resolve.specs.Walk.{numberOf}
+use Rattle.resolve.specs.Look.{lookIn}
+use Rattle.resolve.specs.Walk.{isNoRef, miscountedAt, miscountedIn, numberIn, numberOf, unknownAt, unknownIn, wrongCount}
 use Rattle.resolve.specs.declared.Look.{Look}
+use Rattle.resolve.specs.declared.Look.the-variants.{Ref}
 use Rattle.standing.specs.Standing.{itselves}
-use Rattle.asking.specs.Walk.{LevelOf, Low, argumentLevels, rowTakes}
+use Rattle.asking.specs.Walk.{Headed, LevelOf, Low, PlainAnswered, answered, argumentLevels, rowTakes, zeroLevels}
 use Rattle.asking.specs.declared.Args.{Args}
+use Rattle.asking.specs.declared.Scope.{Scope}
+use Rattle.asking.specs.declared.Walked.{Walked}
 
 -- a parameter
 module _ (v : List ℕ) (i : ℕ) (few : length v ≤ width) where
@@ -95,9 +101,6 @@ module _ (mask l : ℕ) where
 
 -- the highest of the first k
 module _ (k : ℕ) (a : Args) (low : Low a) where
-  pub highest-none : k ≡ 0 → LevelOf 0 (highest (take k (argumentLevels a)))
-  highest-none h = record { same = rw h refl; low = omega arith }
-
   pub highest-one : k ≡ 1 → LevelOf (a .first) (highest (take k (argumentLevels a)))
   highest-one h = record { same = rw h (omega arith); low = low .first }
 
@@ -127,9 +130,6 @@ module _ (c k x y m : ℕ) (b : Bool) (em : m ≡ maskBitsOf c 0) (eb : b ≡ ta
 
 pub is-arity-of : (t : Token) (c k : ℕ) → k ≡ argumentsOf t → t ≡ BuiltIn c → k ≡ arityOf c
 is-arity-of t c k e h = e ∙ rw h refl
-
-pub arity-is : (t : Token) (c k : ℕ) → t ≡ BuiltIn c → k ≡ arityOf c → k ≡ argumentsOf t
-arity-is t c k h e = rw h e
 
 -- a row
 are-levels : (k : ℕ) (a : Args) → Low a → k ≤ maxArity → All IsLevel (take k (argumentLevels a)) × (length (take k (argumentLevels a)) ≡ k)
@@ -193,12 +193,27 @@ scene-itself words g ls = go (ltb g maxDefinitions) refl
         let q : g ≡ maxDefinitions + (g - maxDefinitions) = omega (arith, ltb-false g maxDefinitions e) in
         ap (λ (n : ℕ). levelAt (formAt words n) ls) q
 
-pub by-form : (words : List ℕ) (n : ℕ) (l : Look) (f : Form) (a : Args) (r : ℕ) → n ≡ numberOf l → Gives f (levelAt (formAt words n)) → r ≡ levelAt f (argumentLevels a)
-    → LevelOf r (levelAt (formAt words (numberOf l)) (argumentLevels a))
-by-form words n l f a r en h e = record {
-  same = e ∙ h .at (argumentLevels a) ∙ ap (λ (m : ℕ). levelAt (formAt words m) (argumentLevels a)) en;
-  low = omega (arith, e, level-le f (argumentLevels a));
-}
+zero-levels : (x y z : ℕ) → _≡_ {A = Bool} (cond (ltb 0 x) false (cond (ltb 0 y) false (eqb z 0))) true
+    → _≡_ {A = List ℕ} (x ∷ y ∷ z ∷ 0 ∷ 0 ∷ 0 ∷ []) (replicate width 0)
+zero-levels x y z h = go (ltb 0 x) refl (ltb 0 y) refl (eqb z 0) refl h
+  where
+    go : (b : Bool) → ltb 0 x ≡ b → (c : Bool) → ltb 0 y ≡ c → (d : Bool) → eqb z 0 ≡ d → cond b false (cond c false d) ≡ true
+        → _≡_ {A = List ℕ} (x ∷ y ∷ z ∷ 0 ∷ 0 ∷ 0 ∷ []) (replicate width 0)
+    go true p c q d r h = never h
+    go false p true q d r h = never h
+    go false p false q false r h = never h
+    go false p false q true r h =
+        let a : x ≡ 0 = omega (arith, ltb-false 0 x p) in
+        let b : y ≡ 0 = omega (arith, ltb-false 0 y q) in
+        rw (a, b, eqb-true z 0 r) refl
+
+module _ (words : List ℕ) (g : ℕ) (f : Form) (gives : Gives f (levelAt (formAt words g))) (a : Args) (r : ℕ) where
+  pub by-form : r ≡ levelAt f (argumentLevels a) → LevelOf r (levelAt (formAt words g) (argumentLevels a))
+  by-form e = record { same = e ∙ gives .at (argumentLevels a); low = omega (arith, e, level-le f (argumentLevels a)) }
+
+  pub by-zero : (b : Bool) → b ≡ zeroLevels a → b ≡ true → ((n : ℕ) → r ≡ levelAt f (replicate n 0)) → LevelOf r (levelAt (formAt words g) (argumentLevels a))
+  unfolding zeroLevels
+  by-zero b is-b h e = by-form (e width ∙ ap (levelAt f) (sym (zero-levels (a .first) (a .second) (a .third) (sym is-b ∙ h))))
 
 -- a token
 module _ (words v : List ℕ) (bits g : ℕ) (t : Token) (a : Args) (r : ℕ) where
@@ -225,3 +240,105 @@ module _ (words v : List ℕ) (bits g : ℕ) (t : Token) (a : Args) (r : ℕ) wh
 
   pub at-no-token : t ≡ NoToken → r ≡ 0 → LevelOf r (sixLevel (g ∷ []) (sceneOf itselves words) 0 v bits 0 t (argumentLevels a))
   at-no-token e h = record { same = rw e h; low = omega arith }
+
+-- its answers
+module _ (names facts cs words v : List ℕ) (p : ℕ) (e : Scope) (t : Token) (a : Args) (r : Walked) where
+  abbrev Right : ℕ → Type 0
+  Right l = LevelOf l (sixLevel (numberIn names facts cs t ∷ []) (sceneOf itselves words) 0 v (e .bits) 0 t (argumentLevels a))
+
+  headed : (l : ℕ) (u m : Bool) → r ≡ answered l u m a → Right l → u ≡ unknownIn names facts cs p (e .bound) 0 t → m ≡ miscountedIn names facts cs (e .bound) 0 t
+      → Headed names facts cs words v p e t a r
+  headed l u m q h hu hm =
+      rw q
+      record {
+        kept = refl;
+        low = h .low;
+        level = h .same;
+        unknown = ap (λ (b : Bool). b || a .unknown) hu;
+        miscounted = ap (λ (b : Bool). b || a .miscounted) hm;
+        next = refl;
+      }
+
+  -- a name, by what it means
+  name-level : (x : ℕ) → isName t ≡ true → LevelOf x (levelAt (formAt words (numberIn names facts cs t)) (argumentLevels a)) → Right x
+  name-level x h l = go t refl h
+    where
+      go : (y : Token) → t ≡ y → isName y ≡ true → Right x
+      go (Parameter i) et n = never n
+      go (Bound j) et n = never n
+      go (Name n k) et z = at-name words v (e .bits) (numberIn names facts cs t) t a x n k et l
+      go (InstanceOperator i n k) et z = at-instance words v (e .bits) (numberIn names facts cs t) t a x i n k et l
+      go (BuiltIn c) et n = never n
+      go (Literal n) et z = never z
+      go NoToken et n = never n
+
+  name-unknown : (y : Token) (l : Look) → isName y ≡ true → isNoRef l ≡ unknownAt p (e .bound) y l
+  name-unknown (Parameter i) l h = never h
+  name-unknown (Bound j) l h = never h
+  name-unknown (Name n k) l h = refl
+  name-unknown (InstanceOperator i n k) l h = refl
+  name-unknown (BuiltIn c) l h = never h
+  name-unknown (Literal n) l h = never h
+  name-unknown NoToken l h = never h
+
+  name-count : (y : Token) (l : Look) → isName y ≡ true → wrongCount (argumentsOf y) l ≡ miscountedAt y l
+  name-count (Parameter i) l h = never h
+  name-count (Bound j) l h = never h
+  name-count (Name n k) l h = refl
+  name-count (InstanceOperator i n k) l h = refl
+  name-count (BuiltIn c) l h = never h
+  name-count (Literal n) l h = never h
+  name-count NoToken l h = never h
+
+  pub headed-name : (b : Bool) (k : ℕ) (l : Look) (g x : ℕ) (u m : Bool) → b ≡ isName t → b ≡ true → k ≡ argumentsOf t → l ≡ lookIn names facts cs t → g ≡ numberOf l
+      → LevelOf x (levelAt (formAt words g) (argumentLevels a)) → u ≡ isNoRef l → m ≡ wrongCount k l → r ≡ answered x u m a → Headed names facts cs words v p e t a r
+  headed-name b k l g x u m is-b h ek el eg hl hu hm q =
+      let n : isName t ≡ true = sym is-b ∙ h in
+      headed x u m q
+      (name-level x n (subst (λ (y : ℕ). LevelOf x (levelAt (formAt words y) (argumentLevels a))) (eg ∙ ap numberOf el) hl))
+      (hu ∙ ap isNoRef el ∙ name-unknown t (lookIn names facts cs t) n)
+      (hm ∙ ap₂ wrongCount ek el ∙ name-count t (lookIn names facts cs t) n)
+
+-- of a token that is no name
+pub is-no-name : (t : Token) (b : Bool) → b ≡ isName t → b ≡ false → isName t ≡ false
+is-no-name t b e h = sym e ∙ h
+
+module _ (v : List ℕ) (p : ℕ) (e : Scope) (t : Token) (a : Args) (r : Walked) where
+  pub plain-parameter : (i l : ℕ) (u : Bool) → t ≡ Parameter i → LevelOf l (ownLevel i v) → u ≡ leb p i → r ≡ answered l u false a → PlainAnswered v p e t a r
+  plain-parameter i l u et hl hu q = record {
+    headed = λ names facts cs words. headed names facts cs words v p e t a r l u false q (at-parameter words v (e .bits) (numberIn names facts cs t) t a l i et hl) (rw et hu) (rw et refl);
+  }
+
+  pub plain-bound : (j l : ℕ) (u : Bool) → t ≡ Bound j → LevelOf l (e .bits / 2 ^ j % 2) → u ≡ leb (e .bound) j → r ≡ answered l u false a → PlainAnswered v p e t a r
+  plain-bound j l u et hl hu q = record {
+    headed = λ names facts cs words. headed names facts cs words v p e t a r l u false q (at-bound words v (e .bits) (numberIn names facts cs t) t a l j et hl) (rw et hu) (rw et refl);
+  }
+
+  pub plain-built-in : (c l : ℕ) → t ≡ BuiltIn c → LevelOf l (builtinLevel c (take (arityOf c) (argumentLevels a))) → r ≡ answered l false false a → PlainAnswered v p e t a r
+  plain-built-in c l et hl q = record {
+    headed = λ names facts cs words. headed names facts cs words v p e t a r l false false q (at-built-in words v (e .bits) (numberIn names facts cs t) t a l c et hl) (rw et refl) (rw et refl);
+  }
+
+  pub plain-literal : (n : ℕ) → t ≡ Literal n → r ≡ answered 0 false false a → PlainAnswered v p e t a r
+  plain-literal n et q = record {
+    headed = λ names facts cs words. headed names facts cs words v p e t a r 0 false false q (at-literal words v (e .bits) (numberIn names facts cs t) t a 0 n et refl) (rw et refl) (rw et refl);
+  }
+
+  pub plain-no-token : t ≡ NoToken → r ≡ answered 0 false false a → PlainAnswered v p e t a r
+  plain-no-token et q = record {
+    headed = λ names facts cs words. headed names facts cs words v p e t a r 0 false false q (at-no-token words v (e .bits) (numberIn names facts cs t) t a 0 et refl) (rw et refl) (rw et refl);
+  }
+
+  pub not-name : (n k : ℕ) → t ≡ Name n k → isName t ≡ false → PlainAnswered v p e t a r
+  not-name n k et h = never (sym h ∙ ap isName et)
+
+  pub not-instance : (i n k : ℕ) → t ≡ InstanceOperator i n k → isName t ≡ false → PlainAnswered v p e t a r
+  not-instance i n k et h = never (sym h ∙ ap isName et)
+
+-- what a name means
+pub count-ref : (l : Look) (k n c : ℕ) → l ≡ Ref n c → not (eqb k c) ≡ wrongCount k l
+count-ref l k n c e = rw e refl
+
+pub plain-headed : (names facts cs words v : List ℕ) (p : ℕ) (e : Scope) (t : Token) (a : Args) (r : Walked) → PlainAnswered v p e t a r
+    → Headed names facts cs words v p e t a r
+plain-headed names facts cs words v p e t a r h = h .headed names facts cs words

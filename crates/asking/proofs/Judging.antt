@@ -59,7 +59,8 @@ use Rattle.text_levels.proofs.OwnWorld.{RefsBelow, Tokens, TokensAll, own-level
 use Rattle.worlds.specs.Rows.{Row}
 use Rattle.judge_plain.specs.declared.Phase.{Phase}
 use Rattle.standing.specs.Standing.{Standing, itselves}
-use Rattle.asking.specs.Asks.{NamesAsked, isPassed}
+use Rattle.skimming.specs.Kept.{isPassed}
+use Rattle.asking.specs.Asks.{NamesAsked}
 use Rattle.asking.specs.Walk.{askedLevels}
 use Rattle.asking.proofs.Noting.{Low, Reads, level-asked, noted-reads, reads-below}
 

@@ -1,11 +1,9 @@
 -- What the code rests on
 pub mod Levels
 pub mod Causes
-pub mod Columning
-pub mod Naming
+pub mod Serving
 pub mod Heading
 pub mod Moving
-pub mod Keeping
 pub mod Walking
 -- The table that the walk does without
 pub mod Noting

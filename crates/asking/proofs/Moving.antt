@@ -1,7 +1,6 @@
 -- What the walk does at a token: its reading, what it binds, what it answers.
 use mathlib.Core.Bool.{Bool, cond, false, true, _||_}
-use mathlib.Core.List.{List, [], _∷_}
-use mathlib.Core.Path.{_∙_, _≡_, ap, refl}
+use mathlib.Core.Path.{_∙_, _≡_, refl}
 use Prim.Native.Nat.{ℕ, _+_, _-_, _*_, _^_, _<_}
 use native.Mathlib.Omega.{arith}
 use lib.Dec.{eqb}
@@ -10,17 +9,10 @@ use Rattle.rows.specs.Rows.{binderOf, boundLevelOf}
 use Rattle.tokens.specs.Fold.{underOf}
 use Rattle.tokens.specs.declared.Token.{Token}
 use Rattle.tokens.specs.declared.Token.the-variants.{Parameter, Bound, Name, InstanceOperator, BuiltIn, Literal, NoToken}
-use Rattle.levels.specs.Six.{sixLevel}
-use Rattle.levels.specs.Tables.{sceneOf}
 use Rattle.levels.proofs.Single.{binds-none, binds-one}
 use Rattle.levels.proofs.Walking.{room-below, room-inside, room-last, room-start}
-use Rattle.resolve.specs.Look.{lookIn}
-use Rattle.resolve.specs.Walk.{miscountedAt, numberOf, unknownAt}
-use Rattle.resolve.specs.declared.Look.{Look}
-use Rattle.resolve.specs.declared.Looked.{Looked}
 use Rattle.resolve.proofs.Walking.{binds-none as bound-none, binds-one as bound-one, deeper-low}
-use Rattle.standing.specs.Standing.{itselves}
-use Rattle.asking.specs.Walk.{Headed, Inside, LevelOf, Roomy, argumentLevels, joined, noneOf, threeOf, twoOf}
+use Rattle.asking.specs.Walk.{Inside, Roomy, answered, threeOf, twoOf}
 use Rattle.asking.specs.declared.Args.{Args}
 use Rattle.asking.specs.declared.Scope.{Scope}
 use Rattle.asking.specs.declared.Walked.{Walked}
@@ -77,45 +69,18 @@ module _ (n : ℕ) (e : Scope) where
       go true = b
       go false = a
 
--- a token's answers
-pub headed : (names facts cs words v : List ℕ) (p : ℕ) (e : Scope) (t : Token) (a : Args) (l : Look) (x : Looked) (r : ℕ) → l ≡ lookIn names facts cs t
-    → (x .next ≡ a .looked .next) × (x .unknown ≡ (unknownAt p (e .bound) t l || a .looked .unknown)) × (x .miscounted ≡ (miscountedAt t l || a .looked .miscounted))
-    → LevelOf r (sixLevel (numberOf l ∷ []) (sceneOf itselves words) 0 v (e .bits) 0 t (argumentLevels a))
-    → Headed names facts cs words v p e t a (record { kept = true; level = r; looked = x })
-headed names facts cs words v p e t a l x r el (hn, hu, hm) h = record {
-  kept = refl;
-  low = h .low;
-  level = h .same ∙ ap (λ (l : Look). sixLevel (numberOf l ∷ []) (sceneOf itselves words) 0 v (e .bits) 0 t (argumentLevels a)) el;
-  unknown = hu ∙ ap (λ (l : Look). unknownAt p (e .bound) t l || a .looked .unknown) el;
-  miscounted = hm ∙ ap (λ (l : Look). miscountedAt t l || a .looked .miscounted) el;
-  next = hn;
-}
-
 -- answers put together
-looked-is : (x : Looked) (n : ℕ) (u m : Bool) → x .next ≡ n → x .unknown ≡ u → x .miscounted ≡ m → _≡_ {A = Looked} x (record { next = n; unknown = u; miscounted = m })
-looked-is x n u m a b c = rw (← a, ← b, ← c) refl
+pub answer-is : (l : ℕ) (u m : Bool) (a : Args) (x y : Bool) → x ≡ (u || a .unknown) → y ≡ (m || a .miscounted)
+    → _≡_ {A = Walked} (record { kept = true; unknown = x; next = a .next; level = l; miscounted = y }) (answered l u m a)
+answer-is l u m a x y hx hy = rw (hx, hy) refl
 
-pub none-is : (b : Bool) (at : ℕ) (x : Looked) → (x .next ≡ at) × (x .unknown ≡ false) × (x .miscounted ≡ false)
-    → _≡_ {A = Args} (record { kept = b; first = 0; second = 0; third = 0; looked = x }) (noneOf b at)
-none-is b at x (hn, hu, hm) = ap {B = Args} (λ (x : Looked). record { kept = b; first = 0; second = 0; third = 0; looked = x }) (looked-is x at false false hn hu hm)
+pub two-is : (a b : Walked) (u m : Bool) → u ≡ (a .unknown || b .unknown) → m ≡ (a .miscounted || b .miscounted)
+    → _≡_ {A = Args} (record { kept = true; unknown = u; next = b .next; first = a .level; second = b .level; third = 0; miscounted = m }) (twoOf a b)
+two-is a b u m hu hm = rw (hu, hm) refl
 
-abbrev Joins : Looked → Looked → Looked → Type 0
-Joins a b x = (x .next ≡ b .next) × (x .unknown ≡ (a .unknown || b .unknown)) × (x .miscounted ≡ (a .miscounted || b .miscounted))
-
-joins : (a b x : Looked) → Joins a b x → x ≡ joined a b
-joins a b x (hn, hu, hm) = looked-is x (b .next) (a .unknown || b .unknown) (a .miscounted || b .miscounted) hn hu hm
-
-pub two-is : (a b : Walked) (x : Looked)
-    → (x .next ≡ b .looked .next) × (x .unknown ≡ (a .looked .unknown || b .looked .unknown)) × (x .miscounted ≡ (a .looked .miscounted || b .looked .miscounted))
-    → _≡_ {A = Args} (record { kept = true; first = a .level; second = b .level; third = 0; looked = x }) (twoOf a b)
-two-is a b x h = ap {B = Args} (λ (x : Looked). record { kept = true; first = a .level; second = b .level; third = 0; looked = x }) (joins (a .looked) (b .looked) x h)
-
-pub three-is : (a b c : Walked) (r : Args) (y : Looked) → r ≡ twoOf b c
-    → (y .next ≡ r .looked .next) × (y .unknown ≡ (a .looked .unknown || r .looked .unknown)) × (y .miscounted ≡ (a .looked .miscounted || r .looked .miscounted))
-    → _≡_ {A = Args} (record { kept = true; first = a .level; second = r .first; third = r .second; looked = y }) (threeOf a b c)
-three-is a b c r y e h =
-    ap {B = Args} (λ (y : Looked). record { kept = true; first = a .level; second = r .first; third = r .second; looked = y }) (joins (a .looked) (r .looked) y h)
-    ∙ ap {B = Args} (λ (r : Args). record { kept = true; first = a .level; second = r .first; third = r .second; looked = joined (a .looked) (r .looked) }) e
+pub three-is : (a b c : Walked) (r : Args) (u m : Bool) → r ≡ twoOf b c → u ≡ (a .unknown || r .unknown) → m ≡ (a .miscounted || r .miscounted)
+    → _≡_ {A = Args} (record { kept = true; unknown = u; next = r .next; first = a .level; second = r .first; third = r .second; miscounted = m }) (threeOf a b c)
+three-is a b c r u m e hu hm = rw (hu, hm, e) refl
 
 -- the walk starts with room for as many bound variables as it nests
 pub roomy-start : (e : Scope) → e .bits ≡ 0 → e .bound ≡ 0 → Roomy maxNesting e

@@ -23,9 +23,10 @@ use Rattle.text_levels.proofs.OwnWorld.{AllRefsBelow, RefsBelow}
 use Rattle.agree.specs.Folds.{searching}
 use Rattle.agree.specs.Trees.{AllTokens, AllTokensOf}
 use Rattle.asking.specs.Asks.{NamesAsked, nameCause}
-use Rattle.asking.specs.Walk.{JudgedFirst, NamesJudged, askedLevel, askedLevels}
+use Rattle.skimming.specs.Kept.{KeptWorth}
+use Rattle.asking.specs.Walk.{JudgedFirst, askedLevel, askedLevels}
 use Rattle.asking.specs.declared.Walked.{Walked}
-use Rattle.asking.proofs.Keeping.{kept-worth}
+use Rattle.skimming.proofs.Keeping.{kept-worth}
 
 -- the table says of every name what `look` says
 abbrev mutual
@@ -102,29 +103,29 @@ notes-none names facts cs (found t e) = empty (noted (numberIn names facts cs) t
 notes-none names facts cs none = refl
 
 -- a walk that keeps the limits answers causes 9 and 10
-pub names-asked : (names facts cs words v : List ℕ) (p : ℕ) (s : List ℕ) (w : Walked) → JudgedFirst names facts cs words v p s w → w .kept ≡ true
-    → (r : ℕ) → r ≡ nameCause (w .looked .unknown) (w .looked .miscounted) → NamesAsked names facts cs p (exprAt maxNesting s 0) r
+pub kept-asked : (names facts cs : List ℕ) (p : ℕ) (s : List ℕ) (kept u w : Bool) (x : ℕ)
+    → KeptWorth (searching (unknownIn names facts cs p)) 0 (exprAt maxNesting s 0) kept u x
+    → KeptWorth (searching (miscountedIn names facts cs)) 0 (exprAt maxNesting s 0) kept w x → kept ≡ true
+    → (r : ℕ) → r ≡ nameCause u w → NamesAsked names facts cs p (exprAt maxNesting s 0) r
 unfolding Looks
-names-asked names facts cs words v p s w h k r e = record {
+kept-asked names facts cs p s kept u w x hu hw k r e = record {
   table = [];
   noted = [];
-  unknown = w .looked .unknown;
-  miscounted = w .looked .miscounted;
-  next = w .looked .next;
+  unknown = u;
+  miscounted = w;
+  next = x;
   looks = (
-    kept-worth (searching (unknownIn names facts cs p)) 0 (exprAt maxNesting s 0) (w .kept) (w .looked .unknown) (w .looked .next) (h .unknown) k,
-    kept-worth (searching (miscountedIn names facts cs)) 0 (exprAt maxNesting s 0) (w .kept) (w .looked .miscounted) (w .looked .next) (h .miscounted) k,
+    kept-worth (searching (unknownIn names facts cs p)) 0 (exprAt maxNesting s 0) kept u x hu k,
+    kept-worth (searching (miscountedIn names facts cs)) 0 (exprAt maxNesting s 0) kept w x hw k,
     notes-none names facts cs (exprAt maxNesting s 0),
   );
   cause = e;
 }
 
-pub names-only : (names facts cs words v : List ℕ) (p : ℕ) (s : List ℕ) (w : Walked) → JudgedFirst names facts cs words v p s w → NamesJudged names facts cs p s w
-names-only names facts cs words v p s w h = record { words = words; levels = v; judged = h }
-
-pub names-known : (names facts cs : List ℕ) (p : ℕ) (s : List ℕ) (w : Walked) (r : ℕ) → NamesJudged names facts cs p s w → w .kept ≡ true
-    → r ≡ nameCause (w .looked .unknown) (w .looked .miscounted) → NamesAsked names facts cs p (exprAt maxNesting s 0) r
-names-known names facts cs p s w r h k e = names-asked names facts cs (h .words) (h .levels) p s w (h .judged) k r e
+pub names-asked : (names facts cs words v : List ℕ) (p : ℕ) (s : List ℕ) (w : Walked) → JudgedFirst names facts cs words v p s w → w .kept ≡ true
+    → (r : ℕ) → r ≡ nameCause (w .unknown) (w .miscounted) → NamesAsked names facts cs p (exprAt maxNesting s 0) r
+names-asked names facts cs words v p s w h k r e =
+    kept-asked names facts cs p s (w .kept) (w .unknown) (w .miscounted) (w .next) (h .unknown) (h .miscounted) k r e
 
 -- the level is the same either way
 module _ (names facts cs refs : List ℕ) (S : Scene) (v : List ℕ) where

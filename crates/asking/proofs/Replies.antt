@@ -6,7 +6,7 @@ use mathlib.Core.Option.{Option, none, some}
 use mathlib.Core.Path.{_∙_, _≡_, ap, ap₂, refl, subst, sym}
 use Prim.Native.Nat.{ℕ, zero, suc, _<_, _≤_}
 use native.Mathlib.Omega.{arith}
-use lib.Dec.{leb, ltb}
+use lib.Dec.{eqb, leb, ltb}
 use lib.ListN.{List·getD-append, getD, getElem?, length}
 use Rattle.limits.specs.Limits.{levelCount, maxArity, maxNesting}
 use Rattle.theory.specs.Lists.{All, any, isSome}
@@ -35,13 +35,15 @@ use Rattle.context.proofs.Lookups.{module-law}
 use Rattle.worlds.specs.Rows.{Row}
 use Rattle.judge_plain.specs.declared.Phase.{Phase}
 use Rattle.standing.specs.Standing.{Standing, itselves}
-use Rattle.asking.specs.Asks.{Asks, AsksIn, NamesAsked, earlyCause, isPassed, nameCause, readingCause, replyOf}
+use Rattle.skimming.specs.Kept.{isPassed}
+use Rattle.asking.specs.Asks.{Asks, AsksIn, NamesAsked, keptReply, levelsCause, limitCause, nameCause, replyOf}
 use Rattle.asking.specs.Walk.{JudgedFirst, askedLevels}
 use Rattle.asking.specs.declared.Walked.{Walked}
 use Rattle.asking.specs.declared.Asked.{Asked}
 use Rattle.asking.specs.declared.Asked.the-variants.{Level, Refused}
 use Rattle.asking.proofs.Judging.{asked-level, asked-right, limit-law}
-use Rattle.asking.proofs.Keeping.{kept-passed, kept-worth}
+use Rattle.skimming.proofs.Ends.{kept-whole}
+use Rattle.skimming.proofs.Keeping.{kept-passed, kept-worth}
 use Rattle.asking.proofs.Noting.{names-asked}
 
 -- the module at a place of those ended
@@ -114,8 +116,13 @@ pub none-spelt : (o : Option Expression) → isSome o ≡ false → o ≡ none
 none-spelt none h = refl
 none-spelt (some e) h = never h
 
+-- causes 3 and 5 of the bytes and the levels given; 0 if none holds
+readingCause : List ℕ → List ℕ → ℕ
+readingCause levels expr =
+    cond (wholeOf expr) (three (any (λ l. leb levelCount l) levels) (ltb maxArity (length levels)) (isPassed (limitAt expr 0))) 3
+
 module _ (levels expr : List ℕ) (bytes : Bytes expr) where
-  -- causes 3 and 5 of an expression that is spelt
+  -- of an expression that is spelt
   reading-law : (e : Expression) → wholeOf expr ≡ true → expression .read expr ≡ some e
       → readingCause levels expr ≡ three (any (λ l. leb levelCount l) levels) (overArity (length levels)) (overLimit e)
   unfolding readingCause
@@ -140,30 +147,39 @@ module _ (levels expr : List ℕ) (bytes : Bytes expr) where
       map-all (λ l. leb levelCount l ≡ false) IsLevel (λ l e. let k : l < levelCount = leb-false levelCount l e in omega arith) levels
       (any-false (λ l. leb levelCount l) levels h)
 
--- what is known of causes 3 and 5 before the limits are
-abbrev early : Bool → Bool → Bool → ℕ → ℕ
-early a b d x = cond a (cond b 3 (cond d 5 x)) 3
+-- what the levels tell of them, and what is left
+abbrev told : Bool → Bool → Bool → ℕ
+told a b d = cond b 3 (cond d (cond a 5 3) 0)
 
 module _ (levels expr : List ℕ) where
-  early-none : earlyCause levels expr ≡ 0 → readingCause levels expr ≡ cond (isPassed (limitAt expr 0)) 5 0
-  unfolding earlyCause readingCause
-  early-none z = go (wholeOf expr) (any (λ l. leb levelCount l) levels) (ltb maxArity (length levels)) (cond (isPassed (limitAt expr 0)) 5 0) z
+  levels-tell : (levelsCause levels expr ≡ 0 → ⊥) → readingCause levels expr ≡ levelsCause levels expr
+  unfolding levelsCause limitCause readingCause
+  levels-tell z = go (wholeOf expr) (any (λ l. leb levelCount l) levels) (ltb maxArity (length levels)) (isPassed (limitAt expr 0)) z
     where
-      go : (a b d : Bool) (x : ℕ) → early a b d 0 ≡ 0 → early a b d x ≡ x
-      go false b d x h = absurd (omega arith)
-      go true true d x h = absurd (omega arith)
-      go true false true x h = absurd (omega arith)
-      go true false false x h = refl
-
-  early-some : (earlyCause levels expr ≡ 0 → ⊥) → readingCause levels expr ≡ earlyCause levels expr
-  unfolding earlyCause readingCause
-  early-some z = go (wholeOf expr) (any (λ l. leb levelCount l) levels) (ltb maxArity (length levels)) (cond (isPassed (limitAt expr 0)) 5 0) z
-    where
-      go : (a b d : Bool) (x : ℕ) → (early a b d 0 ≡ 0 → ⊥) → early a b d x ≡ early a b d 0
-      go false b d x h = refl
+      go : (a b d x : Bool) → (told a b d ≡ 0 → ⊥) → cond a (three b d x) 3 ≡ told a b d
       go true true d x h = refl
+      go false true d x h = refl
       go true false true x h = refl
-      go true false false x h = absurd (h refl)
+      go false false true x h = refl
+      go a false false x h = absurd (h refl)
+
+  few-right : levelsCause levels expr ≡ 0 → (any (λ l. leb levelCount l) levels ≡ false) × (ltb maxArity (length levels) ≡ false)
+  unfolding levelsCause limitCause
+  few-right z = go (wholeOf expr) (any (λ l. leb levelCount l) levels) (ltb maxArity (length levels)) z
+    where
+      go : (a b d : Bool) → told a b d ≡ 0 → (b ≡ false) × (d ≡ false)
+      go a true d h = absurd (omega arith)
+      go true false true h = absurd (omega arith)
+      go false false true h = absurd (omega arith)
+      go a false false h = (refl, refl)
+
+  bytes-left : levelsCause levels expr ≡ 0 → readingCause levels expr ≡ cond (wholeOf expr) (cond (isPassed (limitAt expr 0)) 5 0) 3
+  unfolding readingCause
+  bytes-left z = let f = few-right z in rw (f .0, f .1) refl
+
+  -- a query of which they tell nothing has at most three parameters
+  pub few-given : levelsCause levels expr ≡ 0 → length levels ≤ width
+  few-given z = omega (arith, ltb-false maxArity (length levels) (few-right z .1))
 
 -- The reply in a module m that is ended.
 module _ (names facts contexts heads words : List ℕ) (m fields : ℕ) (levels expr : List ℕ) (bytes : Bytes expr) where
@@ -175,7 +191,7 @@ module _ (names facts contexts heads words : List ℕ) (m fields : ℕ) (levels 
   as-read s o e = ap (λ (o : Option Expression). andThen (readIn s (moduleNo s m) levels (length levels) o) (End s)) (sym e)
 
   -- 3 and 5
-  pub reply-reading : (r : ℕ) → r ≡ readingCause levels expr → (r ≡ 0 → ⊥) → AsksIn names facts contexts heads words m fields levels expr (Refused r fields)
+  reply-reading : (r : ℕ) → r ≡ readingCause levels expr → (r ≡ 0 → ⊥) → AsksIn names facts contexts heads words m fields levels expr (Refused r fields)
   reply-reading r is-r h = record { reply = λ file fs s rs c p orders refs declared stands ended e. go s (e ∙ stands .holds .fields) (wholeOf expr) refl }
     where
       go : (s : State) → fields ≡ s .fields → (b : Bool) → wholeOf expr ≡ b
@@ -243,40 +259,62 @@ module _ (names facts contexts heads words : List ℕ) (m fields : ℕ) (levels 
           ∙ as-read s (some (spelt .0)) (spelt .1);
     }
 
-  -- what is known before the expression is walked
-  pub reply-early : (r : ℕ) → r ≡ earlyCause levels expr → (r ≡ 0 → ⊥) → AsksIn names facts contexts heads words m fields levels expr (Refused r fields)
-  reply-early r is-r h = reply-reading r (is-r ∙ sym (early-some levels expr (λ z. h (is-r ∙ z)))) h
+  -- by the levels alone
+  pub reply-levels : (r : ℕ) → r ≡ levelsCause levels expr → (r ≡ 0 → ⊥) → AsksIn names facts contexts heads words m fields levels expr (Refused r fields)
+  reply-levels r is-r h = reply-reading r (is-r ∙ sym (levels-tell levels expr (λ z. h (is-r ∙ z)))) h
 
-  module _ (clear : earlyCause levels expr ≡ 0) (w : Walked) (judged : JudgedFirst names facts (contextCodes contexts heads m) words levels (length levels) expr w) where
+  module _ (clear : levelsCause levels expr ≡ 0) (w : Walked) (judged : JudgedFirst names facts (contextCodes contexts heads m) words levels (length levels) expr w) where
     abbrev G : Algebra ℕ ℕ (List ℕ)
     G = askedLevels names facts (contextCodes contexts heads m) (sceneOf itselves words) levels
 
-    reading : (b : Bool) → w .kept ≡ b → readingCause levels expr ≡ cond (not b) 5 0
-    reading b e =
-        early-none levels expr clear
-        ∙ ap (λ (b : Bool). cond b 5 0)
-        (ap isPassed (sym (limited expr 0 (keptOf (exprAt maxNesting expr 0)) refl))
-        ∙ kept-passed G 0 (exprAt maxNesting expr 0) (w .kept) (w .level) (w .looked .next) (judged .level) ∙ ap not e)
+    passed : isPassed (limitAt expr 0) ≡ not (w .kept)
+    passed =
+        ap isPassed (sym (limited expr 0 (keptOf (exprAt maxNesting expr 0)) refl))
+        ∙ kept-passed G 0 (exprAt maxNesting expr 0) (w .kept) (w .level) (w .next) (judged .level)
 
-    asked : (kept : w .kept ≡ true) (k : ℕ) → k ≡ nameCause (w .looked .unknown) (w .looked .miscounted)
+    -- a walk that passes a limit
+    reading-passed : w .kept ≡ false → readingCause levels expr ≡ limitCause expr
+    unfolding limitCause
+    reading-passed k = bytes-left levels expr clear ∙ rw (passed ∙ ap not k) refl
+
+    -- a walk that keeps them
+    reading-kept : w .kept ≡ true → readingCause levels expr ≡ cond (eqb (w .next) (length expr)) 0 3
+    reading-kept k =
+        bytes-left levels expr clear ∙ rw (passed ∙ ap not k, kept-whole G 0 expr (w .kept) (w .level) (w .next) (judged .level) k) refl
+
+    asked : (kept : w .kept ≡ true) (k : ℕ) → k ≡ nameCause (w .unknown) (w .miscounted)
         → NamesAsked names facts (contextCodes contexts heads m) (length levels) (exprAt maxNesting expr 0) k
     asked kept k e = names-asked names facts (contextCodes contexts heads m) words levels (length levels) expr w judged kept k e
 
-    pub reply-walked : (r : Asked) → r ≡ replyOf w fields → AsksIn names facts contexts heads words m fields levels expr r
-    unfolding replyOf nameCause
-    reply-walked r q =
-        subst (AsksIn names facts contexts heads words m fields levels expr) (sym q)
-        (go (w .kept) refl (w .looked .unknown) refl (w .looked .miscounted) refl)
+    reply-all-kept : w .kept ≡ true → readingCause levels expr ≡ 0 → AsksIn names facts contexts heads words m fields levels expr (keptReply w fields)
+    unfolding keptReply nameCause
+    reply-all-kept k z = go (w .unknown) refl (w .miscounted) refl
       where
-        go : (a : Bool) → w .kept ≡ a → (u : Bool) → w .looked .unknown ≡ u → (d : Bool) → w .looked .miscounted ≡ d
-            → AsksIn names facts contexts heads words m fields levels expr
-            (cond a (cond u (Refused 9 fields) (cond d (Refused 10 fields) (Level (w .level)))) (Refused 5 fields))
-        go false k u eu d ed = reply-reading 5 (sym (reading false k)) (λ z. omega arith)
-        go true k true eu d ed = reply-names (reading true k) 9 (asked k 9 (rw eu refl)) (λ z. omega arith)
-        go true k false eu true ed = reply-names (reading true k) 10 (asked k 10 (rw (eu, ed) refl)) (λ z. omega arith)
-        go true k false eu false ed =
-            reply-level (reading true k) 0 (asked k 0 (rw (eu, ed) refl)) refl (w .level) (w .looked .next)
-            (kept-worth G 0 (exprAt maxNesting expr 0) (w .kept) (w .level) (w .looked .next) (judged .level) k)
+        go : (u : Bool) → w .unknown ≡ u → (d : Bool) → w .miscounted ≡ d
+            → AsksIn names facts contexts heads words m fields levels expr (cond u (Refused 9 fields) (cond d (Refused 10 fields) (Level (w .level))))
+        go true eu d ed = reply-names z 9 (asked k 9 (rw eu refl)) (λ z. omega arith)
+        go false eu true ed = reply-names z 10 (asked k 10 (rw (eu, ed) refl)) (λ z. omega arith)
+        go false eu false ed =
+            reply-level z 0 (asked k 0 (rw (eu, ed) refl)) refl (w .level) (w .next)
+            (kept-worth G 0 (exprAt maxNesting expr 0) (w .kept) (w .level) (w .next) (judged .level) k)
+
+    some-cause : limitCause expr ≡ 0 → ⊥
+    unfolding limitCause
+    some-cause z = go (wholeOf expr) z
+      where
+        go : (b : Bool) → _≡_ {A = ℕ} (cond b 5 3) 0 → ⊥
+        go true h = omega arith
+        go false h = omega arith
+
+    pub reply-walked : (r : Asked) → r ≡ replyOf expr w fields → AsksIn names facts contexts heads words m fields levels expr r
+    unfolding replyOf
+    reply-walked r q = subst (AsksIn names facts contexts heads words m fields levels expr) (sym q) (go (w .kept) refl (eqb (w .next) (length expr)) refl)
+      where
+        go : (a : Bool) → w .kept ≡ a → (b : Bool) → eqb (w .next) (length expr) ≡ b
+            → AsksIn names facts contexts heads words m fields levels expr (cond a (cond b (keptReply w fields) (Refused 3 fields)) (Refused (limitCause expr) fields))
+        go false k b e = reply-reading (limitCause expr) (sym (reading-passed k)) some-cause
+        go true k true e = reply-all-kept k (reading-kept k ∙ rw e refl)
+        go true k false e = reply-reading 3 (sym (reading-kept k ∙ rw e refl)) (λ z. omega arith)
 
 -- The reply by a module's name n.
 module _ (names facts contexts heads words : List ℕ) (c : Counts) (n : ℕ) (levels expr : List ℕ) (q : ℕ) (place : q ≡ placeOf n (part heads 0 (c .modules))) where
@@ -297,14 +335,3 @@ module _ (names facts contexts heads words : List ℕ) (c : Counts) (n : ℕ) (l
         ∙ ap (λ (o : Option Module). andThen (andThen (orNoSuch o) (λ M. readIn s M levels (length levels) (expression .read expr))) (λ t. result (levelOf s levels t)))
         (sym (found-module (store names facts contexts orders heads) c s (stands .holds) n q place ended));
   }
-
--- a query without these causes has at most three parameters
-pub few-given : (levels expr : List ℕ) → earlyCause levels expr ≡ 0 → length levels ≤ width
-unfolding earlyCause
-few-given levels expr z = go (wholeOf expr) (any (λ l. leb levelCount l) levels) (ltb maxArity (length levels)) z refl
-  where
-    go : (a b d : Bool) → early a b d 0 ≡ 0 → ltb maxArity (length levels) ≡ d → length levels ≤ width
-    go false b d h e = absurd (omega arith)
-    go true true d h e = absurd (omega arith)
-    go true false true h e = absurd (omega arith)
-    go true false false h e = omega (arith, ltb-false maxArity (length levels) e)

@@ -1,9 +1,9 @@
 -- What the level query answers, and the causes of its expression by position.
-use mathlib.Core.Bool.{Bool, cond, false, true}
+use mathlib.Core.Bool.{Bool, cond}
 use mathlib.Core.List.{List}
 use mathlib.Core.Path.{_≡_}
 use Prim.Native.Nat.{ℕ, _<_}
-use lib.Dec.{leb, ltb}
+use lib.Dec.{eqb, leb, ltb}
 use lib.ListN.{length}
 use Rattle.limits.specs.Limits.{levelCount, maxArity}
 use Rattle.theory.specs.Lists.{any}
@@ -13,9 +13,6 @@ use Rattle.rules.specs.Query.{levelReply, readIn}
 use Rattle.rules.specs.Run.{Outcome, andThen, refusal, result}
 use Rattle.rules.specs.State.{State, levelOf}
 use Rattle.tokens.specs.Expr.{Found, wholeOf}
-use Rattle.tokens.specs.Limit.{limitAt}
-use Rattle.tokens.specs.declared.Limit.{Limit}
-use Rattle.tokens.specs.declared.Limit.the-variants.{Kept, Passed}
 use Rattle.context.specs.Holds.{moduleNo}
 use Rattle.context.specs.Store.{store}
 use Rattle.context.specs.declared.Counts.{Counts}
@@ -27,19 +24,13 @@ use Rattle.asking.specs.declared.Walked.{Walked}
 use Rattle.asking.specs.declared.Asked.{Asked}
 use Rattle.asking.specs.declared.Asked.the-variants.{Level, Refused}
 
-abbrev pub isPassed : Limit → Bool
-isPassed (Kept e) = false
-isPassed Passed = true
+-- the cause where a limit is passed: 5 of bytes that are one expression
+unfoldable pub limitCause : List ℕ → ℕ
+limitCause expr = cond (wholeOf expr) 5 3
 
--- causes 3 and 5 of the bytes and the levels given; 0 if none holds
-unfoldable pub readingCause : List ℕ → List ℕ → ℕ
-readingCause levels expr =
-    cond (wholeOf expr) (cond (any (λ l. leb levelCount l) levels) 3 (cond (ltb maxArity (length levels)) 5 (cond (isPassed (limitAt expr 0)) 5 0))) 3
-
--- the same without the limits of the expression
-unfoldable pub earlyCause : List ℕ → List ℕ → ℕ
-earlyCause levels expr =
-    cond (wholeOf expr) (cond (any (λ l. leb levelCount l) levels) 3 (cond (ltb maxArity (length levels)) 5 0)) 3
+-- causes 3 and 5 as far as the levels given tell them; 0 if they do not
+unfoldable pub levelsCause : List ℕ → List ℕ → ℕ
+levelsCause levels expr = cond (any (λ l. leb levelCount l) levels) 3 (cond (ltb maxArity (length levels)) (limitCause expr) 0)
 
 -- causes 9 and 10 of a walk's answers
 unfoldable pub nameCause : Bool → Bool → ℕ
@@ -56,11 +47,12 @@ pub record NamesAsked (names facts cs : List ℕ) (n : ℕ) (x : Found) (r : ℕ
   pub cause : r ≡ nameCause unknown miscounted
 
 -- the reply by what a walk of the expression found
-unfoldable pub replyOf : Walked → ℕ → Asked
-replyOf w fields =
-    cond (w .kept)
-    (cond (w .looked .unknown) (Refused 9 fields) (cond (w .looked .miscounted) (Refused 10 fields) (Level (w .level))))
-    (Refused 5 fields)
+unfoldable pub keptReply : Walked → ℕ → Asked
+keptReply w fields = cond (w .unknown) (Refused 9 fields) (cond (w .miscounted) (Refused 10 fields) (Level (w .level)))
+
+unfoldable pub replyOf : List ℕ → Walked → ℕ → Asked
+replyOf expr w fields =
+    cond (w .kept) (cond (eqb (w .next) (length expr)) (keptReply w fields) (Refused 3 fields)) (Refused (limitCause expr) fields)
 
 -- an answer as the rules give it
 abbrev pub outcomeOf : Asked → Outcome ℕ

@@ -1,4 +1,2 @@
 pub mod Asks
-pub mod Columns
-pub mod Names
 pub mod Walk

@@ -1,28 +1,23 @@
-// The level of one token at the levels of its arguments.
+// Levels by the kind of token, at the levels of its arguments.
 ghost use mathlib.Core.Path.{_≡_};
-ghost use mathlib.Core.List.{[], _∷_};
 ghost use Prim.Native.Nat.{_/_, _%_, _^_, _≤_, max, min};
 ghost use lib.ListN.{length, take};
 ghost use Rattle.limits.specs.Limits.{maxArity};
 ghost use Rattle.theory.specs.Level.{builtinLevel, highest};
 ghost use Rattle.rows.specs.Rows.{arityOf};
-ghost use Rattle.tokens.specs.Token.{argumentsOf};
 ghost use Rattle.forms.specs.Forms.{Gives, levelAt, takes, width};
 ghost use Rattle.forms.specs.Numbers.{demandOf};
 ghost use Rattle.forms.specs.Tables.{formAt};
-ghost use Rattle.levels.specs.Six.{ownLevel, sixLevel};
-ghost use Rattle.levels.specs.Tables.{sceneOf, tableWords};
-ghost use Rattle.resolve.specs.Walk.{numberOf};
-ghost use Rattle.standing.specs.Standing.{itselves};
-ghost use Rattle.asking.specs.Columns.{Columned};
-ghost use Rattle.asking.specs.Walk.{LevelOf, Low, argumentLevels, rowTakes};
+ghost use Rattle.levels.specs.Six.{ownLevel};
+ghost use Rattle.levels.specs.Tables.{tableWords};
+ghost use Rattle.tables.specs.Columns.{Columned};
+ghost use Rattle.asking.specs.Walk.{LevelOf, Low, argumentLevels, rowTakes, zeroLevels};
 use crate::Args;
-use crate::columns;
 use forms::Form;
 use forms::card::level;
+use forms::card::level_at_zero;
 use limits::Limits;
-use resolve::Look;
-use tokens::Token;
+use tables::columns;
 
 fn capped(x: u8) -> u8
     ensures { λ r. ⌜ LevelOf r (min 4 x) ⌝ }
@@ -37,7 +32,7 @@ fn larger(a: u8, b: u8) -> u8
 }
 
 // The level given for parameter i.
-fn parameter_level(levels: &[u8], i: u8) -> u8
+pub fn parameter_level(levels: &[u8], i: u8) -> u8
     requires { ⌜ length (now levels) ≤ width ⌝ }
     ensures { λ r. ⌜ LevelOf r (ownLevel i (now (levels .entry))) ⌝ }
 {
@@ -50,7 +45,7 @@ fn parameter_level(levels: &[u8], i: u8) -> u8
 }
 
 // The level of bound variable j.
-fn bit_of(bits: u64, j: u16) -> u8
+pub fn bit_of(bits: u64, j: u16) -> u8
     ensures { λ r. ⌜ LevelOf r (bits / 2 ^ j % 2) ⌝ }
 {
     if j < 64 {
@@ -109,7 +104,7 @@ fn all_taken(columns: &[u8], code: u8, k: u8, a: Args) -> bool
 }
 
 // The level of a code's application to k arguments.
-fn row_level(columns: &[u8], code: u8, k: u8, a: Args) -> u8
+pub fn row_level(columns: &[u8], code: u8, k: u8, a: Args) -> u8
     requires { ⌜ (k ≡ arityOf code) × (k ≤ maxArity) × Columned (now columns) × Low a ⌝ }
     ensures { λ r. ⌜ LevelOf r (builtinLevel code (take (arityOf code) (argumentLevels a))) ⌝ }
 {
@@ -136,46 +131,28 @@ fn form_at(words: &[u64], g: usize) -> Form
     }
 }
 
-fn number_of(l: Look) -> u16
-    ensures { λ r. ⌜ r ≡ numberOf l ⌝ }
+// Whether all levels are 0.
+fn at_zero(a: Args) -> bool
+    ensures { λ r. ⌜ r ≡ zeroLevels a ⌝ }
 {
-    match l {
-        Look::Ref(number, _) => number,
-        Look::NoRef => 0,
+    if 0 < a.first {
+        return false;
     }
+    if 0 < a.second {
+        return false;
+    }
+    a.third == 0
 }
 
-// The level of what a name means.
-fn name_level(words: &[u64], l: Look, a: Args) -> u8
+// The level of what a name means, by its number; most names have no arguments, or none above level 0.
+pub fn name_level(words: &[u64], g: u16, a: Args) -> u8
     requires { ⌜ length (now words) ≡ tableWords ⌝ }
-    ensures { λ r. ⌜ LevelOf r (levelAt (formAt (now (words .entry)) (numberOf l)) (argumentLevels a)) ⌝ }
+    ensures { λ r. ⌜ LevelOf r (levelAt (formAt (now (words .entry)) g) (argumentLevels a)) ⌝ }
 {
-    let f = form_at(words, number_of(l) as usize);
+    let f = form_at(words, g as usize);
+    if at_zero(a) {
+        return level_at_zero(f);
+    }
     let v = [a.first, a.second, a.third, 0, 0, 0];
     level(f, &v)
-}
-
-// The level of a token, which means l, over its k arguments.
-pub fn token_level(
-    columns: &[u8],
-    words: &[u64],
-    levels: &[u8],
-    bits: u64,
-    t: Token,
-    l: Look,
-    k: u8,
-    a: Args,
-) -> u8
-    requires { ⌜ (k ≡ argumentsOf t) × (k ≤ maxArity) × Columned (now columns) × (length (now words) ≡ tableWords) × (length (now levels) ≤ width) × Low a ⌝ }
-    ensures { λ r. ⌜ LevelOf r (sixLevel (numberOf l ∷ []) (sceneOf itselves (now (words .entry))) 0 (now (levels .entry)) bits 0 t (argumentLevels a)) ⌝ }
-{
-    match t {
-        Token::Parameter(i) => parameter_level(levels, i),
-        Token::Bound(j) => bit_of(bits, j),
-        Token::Name(_, _) => name_level(words, l, a),
-        Token::InstanceOperator(_, _, _) => name_level(words, l, a),
-        Token::BuiltIn(code) => row_level(columns, code, k, a),
-        Token::Literal(_) => 0,
-        Token::NoToken => 0,
-    }
 }

@@ -1,10 +1,8 @@
 // The level query's expression: "judged like a THEOREM field with its parameters, without cause 12 and of any length", at the end of a
 // module. It may be longer than any file, so no table stands beside it: each name is looked up where it stands.
-pub mod columns;
 pub mod heads;
-pub mod names;
+pub mod over;
 pub mod reading;
-pub mod token;
 pub mod walk;
 
 ghost use mathlib.Core.Path.{_≡_};
@@ -12,24 +10,17 @@ ghost use Prim.Native.Nat.{_≤_};
 ghost use lib.ListN.{length};
 ghost use Rattle.limits.specs.Limits.{maxModules};
 ghost use Rattle.levels.specs.Tables.{tableWords};
-ghost use Rattle.asking.specs.Asks.{Asks, AsksIn, earlyCause, replyOf};
-use crate::reading::early_cause;
+ghost use Rattle.asking.specs.Asks.{Asks, AsksIn, keptReply, levelsCause, replyOf};
+use crate::reading::levels_cause;
+use crate::reading::limit_cause;
 use crate::walk::judge;
 use context::Counts;
 use context::lookup::find_module;
-use resolve::Looked;
 
 // The reply: a level, 0 to 4; or the cause of a refusal and its place.
 pub enum Asked {
     Level(u8),
     Refused(u8, usize),
-}
-
-// Where the codes of a context stand in the lent array, and how many parameters are known.
-pub struct Place {
-    pub from: usize,
-    pub end: usize,
-    pub params: usize,
 }
 
 // What an expression inherits: the levels of the bound variables, 0 or 1 each, a bit for each, the nearest lowest; and how many there are.
@@ -39,39 +30,53 @@ pub struct Scope {
 }
 
 // Of an expression: whether it keeps the limits; and if it does, its level, whether its names are known and rightly counted, and the position
-// after it.
+// after it. The two causes stand apart: side by side they would be read as one word, which waits until both are in memory.
 pub struct Walked {
     pub kept: bool,
+    pub unknown: bool,
+    pub next: usize,
     pub level: u8,
-    pub looked: Looked,
+    pub miscounted: bool,
 }
 
 // The same of at most three arguments, level 0 for those that there are not.
 pub struct Args {
     pub kept: bool,
+    pub unknown: bool,
+    pub next: usize,
     pub first: u8,
     pub second: u8,
     pub third: u8,
-    pub looked: Looked,
+    pub miscounted: bool,
 }
 
-// The reply to an expression by what a walk found. The place of a refusal is the number of fields.
-fn reply_of(w: Walked, fields: usize) -> Asked
-    ensures { λ r. ⌜ r ≡ replyOf w fields ⌝ }
+// The reply to bytes that are one expression and keep the limits, by what a walk found. The place of a refusal is the number of fields.
+fn kept_reply(w: Walked, fields: usize) -> Asked
+    ensures { λ r. ⌜ r ≡ keptReply w fields ⌝ }
+{
+    if w.unknown {
+        return Asked::Refused(9, fields);
+    }
+    if w.miscounted {
+        return Asked::Refused(10, fields);
+    }
+    Asked::Level(w.level)
+}
+
+// The same to any bytes: a walk that keeps the limits tells by its end whether they are one expression, and only another needs them read apart.
+fn reply_of(expr: &[u8], w: Walked, fields: usize) -> Asked
+    ensures { λ r. ⌜ r ≡ replyOf (now (expr .entry)) w fields ⌝ }
 {
     if w.kept {
-        if w.looked.unknown {
-            return Asked::Refused(9, fields);
+        if w.next == expr.len() {
+            return kept_reply(w, fields);
         }
-        if w.looked.miscounted {
-            return Asked::Refused(10, fields);
-        }
-        return Asked::Level(w.level);
+        return Asked::Refused(3, fields);
     }
-    Asked::Refused(5, fields)
+    Asked::Refused(limit_cause(expr), fields)
 }
 
-// The reply in module m to bytes that are one expression, at most three levels being given.
+// The reply in module m, at most three levels being given.
 fn walked_reply(
     expr: &[u8],
     levels: &[u8],
@@ -83,7 +88,7 @@ fn walked_reply(
     m: usize,
     fields: usize,
 ) -> Asked
-    requires { ⌜ (m ≤ maxModules) × (length (now words) ≡ tableWords) × (earlyCause (now levels) (now expr) ≡ 0) ⌝ }
+    requires { ⌜ (m ≤ maxModules) × (length (now words) ≡ tableWords) × (levelsCause (now levels) (now expr) ≡ 0) ⌝ }
     ensures { λ r. ⌜ AsksIn (now (names .entry)) (now (facts .entry)) (now (contexts .entry)) (now (heads .entry)) (now (words .entry)) m fields (now (levels .entry)) (now (expr .entry)) r ⌝ }
 {
     let w = judge(
@@ -97,7 +102,7 @@ fn walked_reply(
         m,
         levels.len(),
     );
-    reply_of(w, fields)
+    reply_of(expr, w, fields)
 }
 
 // The reply in module m.
@@ -115,7 +120,7 @@ fn reply_in(
     requires { ⌜ (m ≤ maxModules) × (length (now words) ≡ tableWords) ⌝ }
     ensures { λ r. ⌜ AsksIn (now (names .entry)) (now (facts .entry)) (now (contexts .entry)) (now (heads .entry)) (now (words .entry)) m fields (now (levels .entry)) (now (expr .entry)) r ⌝ }
 {
-    let cause = early_cause(expr, levels);
+    let cause = levels_cause(expr, levels);
     if cause != 0 {
         return Asked::Refused(cause, fields);
     }

@@ -7,50 +7,31 @@ ghost use lib.ListN.{length};
 ghost use Rattle.limits.specs.Limits.{maxArity, maxModules};
 ghost use Rattle.tokens.specs.Expr.{exprAt, several};
 ghost use Rattle.tokens.specs.Fold.{underOf};
-ghost use Rattle.tokens.specs.Token.{argumentsOf};
 ghost use Rattle.tokens.specs.declared.Token.the-variants.{BuiltIn};
 ghost use Rattle.forms.specs.Forms.{width};
 ghost use Rattle.context.specs.Parts.{part};
 ghost use Rattle.context.specs.Store.{contextCodes, wordCount};
 ghost use Rattle.levels.specs.Tables.{tableWords};
-ghost use Rattle.asking.specs.Columns.{Columned};
-ghost use Rattle.asking.specs.Walk.{AllJudged, Headed, Inside, Judged, JudgedFirst, Low, Ready, Roomy, noneOf, oneOf, threeOf, twoOf};
+ghost use Rattle.tables.specs.Columns.{Columned};
+ghost use Rattle.asking.specs.Walk.{AllJudged, Inside, Judged, JudgedFirst, Ready, Roomy, noneOf, oneOf, threeOf, twoOf};
 use crate::Args;
-use crate::Place;
 use crate::Scope;
 use crate::Walked;
-use crate::columns;
-use crate::columns::Columns;
-use crate::heads::token_level;
-use crate::names;
-use crate::token::token_in;
+use crate::over::either;
+use crate::over::over_args;
 use context::lists::number_at;
 use limits::Limits;
-use resolve::Ask;
-use resolve::Looked;
-use resolve::steps::both;
-use resolve::steps::nothing;
-use resolve::steps::with_args;
+use skimming::Place;
+use tables::Long;
+use tables::brought;
+use tables::brought::Nexts;
+use tables::columns;
+use tables::columns::Columns;
+use tables::names;
+use tables::names::Names;
+use tables::token::arguments_in;
+use tables::token::token_in;
 use tokens::Token;
-
-// From so many bytes on the tables are worth filling.
-const LONG: usize = 1024;
-
-// How many arguments follow a token.
-fn arguments_in(columns: &[u8], t: Token) -> u8
-    requires { ⌜ Columned (now columns) ⌝ }
-    ensures { λ r. ⌜ r ≡ argumentsOf t ⌝ }
-{
-    match t {
-        Token::Parameter(_) => 0,
-        Token::Bound(_) => 0,
-        Token::Name(_, k) => k,
-        Token::InstanceOperator(_, _, k) => k,
-        Token::BuiltIn(code) => columns::arity(columns, code),
-        Token::Literal(_) => 0,
-        Token::NoToken => 0,
-    }
-}
 
 // One more bound variable, where a code binds one.
 fn bind(columns: &[u8], code: u8, e: Scope) -> Scope
@@ -96,8 +77,10 @@ fn stopped(at: usize) -> Walked
 {
     Walked {
         kept: false,
+        unknown: false,
+        next: at,
         level: 0,
-        looked: nothing(at),
+        miscounted: false,
     }
 }
 
@@ -106,23 +89,26 @@ fn no_args(kept: bool, at: usize) -> Args
 {
     Args {
         kept,
+        unknown: false,
+        next: at,
         first: 0,
         second: 0,
         third: 0,
-        looked: nothing(at),
+        miscounted: false,
     }
 }
 
 fn one(a: Walked) -> Args
     ensures { λ r. ⌜ r ≡ oneOf a ⌝ }
 {
-    let looked = a.looked;
     Args {
         kept: true,
+        unknown: a.unknown,
+        next: a.next,
         first: a.level,
         second: 0,
         third: 0,
-        looked,
+        miscounted: a.miscounted,
     }
 }
 
@@ -131,10 +117,12 @@ fn two(a: Walked, b: Walked) -> Args
 {
     Args {
         kept: true,
+        unknown: either(a.unknown, b.unknown),
+        next: b.next,
         first: a.level,
         second: b.level,
         third: 0,
-        looked: both(a.looked, b.looked),
+        miscounted: either(a.miscounted, b.miscounted),
     }
 }
 
@@ -144,42 +132,12 @@ fn three(a: Walked, b: Walked, c: Walked) -> Args
     let r = two(b, c);
     Args {
         kept: true,
+        unknown: either(a.unknown, r.unknown),
+        next: r.next,
         first: a.level,
         second: r.first,
         third: r.second,
-        looked: both(a.looked, r.looked),
-    }
-}
-
-// A token over its k arguments, which keep the limits.
-fn over_args(
-    columns: &[u8],
-    table: &[u16],
-    contexts: &[u16],
-    names: &[u16],
-    facts: &[u16],
-    words: &[u64],
-    levels: &[u8],
-    p: Place,
-    e: Scope,
-    t: Token,
-    k: u8,
-    a: Args,
-) -> Walked
-    requires { ⌜ (k ≡ argumentsOf t) × (k ≤ maxArity) × Low a × Ready (now names) (now contexts) (now columns) (now table) (now words) (now levels) p ⌝ }
-    ensures { λ r. ⌜ Headed (now (names .entry)) (now (facts .entry)) (part (now (contexts .entry)) (p .from) (p .end - p .from)) (now (words .entry)) (now (levels .entry)) (p .params) e t a r ⌝ }
-{
-    let l = names::look(names, facts, contexts, table, p.from, p.end, t);
-    let ask = Ask {
-        module: 0,
-        params: p.params,
-        bound: e.bound,
-    };
-    let looked = with_args(t, l, ask, a.looked);
-    Walked {
-        kept: true,
-        level: token_level(columns, words, levels, e.bits, t, l, k, a),
-        looked,
+        miscounted: either(a.miscounted, r.miscounted),
     }
 }
 
@@ -187,7 +145,8 @@ fn over_args(
 fn walk_expr(
     s: &[u8],
     columns: &[u8],
-    table: &[u16],
+    table: &[u8],
+    nexts: &[u8],
     contexts: &[u16],
     names: &[u16],
     facts: &[u16],
@@ -198,7 +157,7 @@ fn walk_expr(
     p: Place,
     e: Scope,
 ) -> Walked
-    requires { ⌜ Ready (now names) (now contexts) (now columns) (now table) (now words) (now levels) p × Roomy nest e ⌝ }
+    requires { ⌜ Ready (now names) (now contexts) (now columns) (now table) (now nexts) (now words) (now levels) p × Roomy nest e ⌝ }
     ensures { λ r. ⌜ Judged (now (names .entry)) (now (facts .entry)) (part (now (contexts .entry)) (p .from) (p .end - p .from)) (now (words .entry)) (now (levels .entry)) (p .params) e (exprAt nest (now (s .entry)) at) r ⌝ }
 {
     if nest == 0 {
@@ -216,6 +175,7 @@ fn walk_expr(
             s,
             columns,
             table,
+            nexts,
             contexts,
             names,
             facts,
@@ -232,6 +192,7 @@ fn walk_expr(
             return over_args(
                 columns,
                 table,
+                nexts,
                 contexts,
                 names,
                 facts,
@@ -253,7 +214,8 @@ fn walk_expr(
 fn walk_args(
     s: &[u8],
     columns: &[u8],
-    table: &[u16],
+    table: &[u8],
+    nexts: &[u8],
     contexts: &[u16],
     names: &[u16],
     facts: &[u16],
@@ -266,7 +228,7 @@ fn walk_args(
     outer: Scope,
     last: Scope,
 ) -> Args
-    requires { ⌜ Ready (now names) (now contexts) (now columns) (now table) (now words) (now levels) p × Roomy nest outer × Roomy nest last × (k ≤ maxArity) ⌝ }
+    requires { ⌜ Ready (now names) (now contexts) (now columns) (now table) (now nexts) (now words) (now levels) p × Roomy nest outer × Roomy nest last × (k ≤ maxArity) ⌝ }
     ensures { λ r. ⌜ AllJudged (now (names .entry)) (now (facts .entry)) (part (now (contexts .entry)) (p .from) (p .end - p .from)) (now (words .entry)) (now (levels .entry)) (p .params) outer last (several (exprAt nest (now (s .entry))) at k) r ⌝ }
 {
     if k == 0 {
@@ -277,6 +239,7 @@ fn walk_args(
         s,
         columns,
         table,
+        nexts,
         contexts,
         names,
         facts,
@@ -292,11 +255,12 @@ fn walk_args(
             return one(a);
         }
         let f = under(k - 1, outer, last);
-        let i = a.looked.next;
+        let i = a.next;
         let b = walk_expr(
             s,
             columns,
             table,
+            nexts,
             contexts,
             names,
             facts,
@@ -311,11 +275,12 @@ fn walk_args(
             if k == 2 {
                 return two(a, b);
             }
-            let j = b.looked.next;
+            let j = b.next;
             let c = walk_expr(
                 s,
                 columns,
                 table,
+                nexts,
                 contexts,
                 names,
                 facts,
@@ -340,7 +305,8 @@ fn walk_args(
 fn judge_with(
     s: &[u8],
     columns: &[u8],
-    table: &[u16],
+    table: &[u8],
+    nexts: &[u8],
     contexts: &[u16],
     names: &[u16],
     facts: &[u16],
@@ -348,7 +314,7 @@ fn judge_with(
     levels: &[u8],
     p: Place,
 ) -> Walked
-    requires { ⌜ Ready (now names) (now contexts) (now columns) (now table) (now words) (now levels) p ⌝ }
+    requires { ⌜ Ready (now names) (now contexts) (now columns) (now table) (now nexts) (now words) (now levels) p ⌝ }
     ensures { λ r. ⌜ JudgedFirst (now (names .entry)) (now (facts .entry)) (part (now (contexts .entry)) (p .from) (p .end - p .from)) (now (words .entry)) (now (levels .entry)) (p .params) (now (s .entry)) r ⌝ }
 {
     let e = Scope { bits: 0, bound: 0 };
@@ -357,6 +323,7 @@ fn judge_with(
         s,
         columns,
         table,
+        nexts,
         contexts,
         names,
         facts,
@@ -382,12 +349,11 @@ fn judge_short(
     requires { ⌜ (length (now words) ≡ tableWords) × (length (now levels) ≤ width) × (p .from < 2 ^ 32) ⌝ }
     ensures { λ r. ⌜ JudgedFirst (now (names .entry)) (now (facts .entry)) (part (now (contexts .entry)) (p .from) (p .end - p .from)) (now (words .entry)) (now (levels .entry)) (p .params) (now (s .entry)) r ⌝ }
 {
-    let columns = [0u8; 1];
-    let table = [0u16; 1];
     judge_with(
         s,
-        &columns[..0],
-        &table[..0],
+        &s[..0],
+        &s[..0],
+        &s[..0],
         contexts,
         names,
         facts,
@@ -411,13 +377,16 @@ fn judge_long(
     ensures { λ r. ⌜ JudgedFirst (now (names .entry)) (now (facts .entry)) (part (now (contexts .entry)) (p .from) (p .end - p .from)) (now (words .entry)) (now (levels .entry)) (p .params) (now (s .entry)) r ⌝ }
 {
     let mut columns = [0u8; Columns::ENTRIES];
-    let mut table = [0u16; 65536];
+    let mut table = [0u8; Names::BYTES];
+    let mut nexts = [0u8; Nexts::BYTES];
     columns::fill(&mut columns);
     names::fill(names, contexts, &mut table, p.from, p.end);
+    brought::fill(names, &mut nexts);
     judge_with(
         s,
         &columns,
         &table,
+        &nexts,
         contexts,
         names,
         facts,
@@ -427,34 +396,7 @@ fn judge_long(
     )
 }
 
-// The expression that the bytes begin with, in the context of module m, so many parameters being known; with no tables, for a caller whose
-// stack has no room for them.
-pub fn judge_untabled(
-    s: &[u8],
-    contexts: &[u16],
-    names: &[u16],
-    facts: &[u16],
-    heads: &[u16],
-    words: &[u64],
-    levels: &[u8],
-    m: usize,
-    params: usize,
-) -> Walked
-    requires { ⌜ (length (now words) ≡ tableWords) × (length (now levels) ≤ width) × (m ≤ maxModules) ⌝ }
-    ensures { λ r. ⌜ JudgedFirst (now (names .entry)) (now (facts .entry)) (contextCodes (now (contexts .entry)) (now (heads .entry)) m) (now (words .entry)) (now (levels .entry)) params (now (s .entry)) r ⌝ }
-{
-    let first = m * Limits::CONTEXT;
-    let count = number_at(heads, Limits::PLACES + m) as usize;
-    let end = first + count;
-    let p = Place {
-        from: first,
-        end,
-        params,
-    };
-    judge_short(s, contexts, names, facts, words, levels, p)
-}
-
-// The same, with the tables where they pay.
+// The expression that the bytes begin with, in the context of module m, so many parameters being known.
 pub fn judge(
     s: &[u8],
     contexts: &[u16],
@@ -476,7 +418,7 @@ pub fn judge(
         end: from + count,
         params,
     };
-    if s.len() < LONG {
+    if s.len() < Long::BYTES {
         judge_short(s, contexts, names, facts, words, levels, p)
     } else {
         judge_long(s, contexts, names, facts, words, levels, p)

@@ -1,32 +1,43 @@
--- Causes 3 and 5 of an expansion query: one lemma for each way through the code.
-use borrow.Author.Tests.{le-ltb, lt-ltb}
+-- The causes of an expansion query's expression: one lemma for each way through the code.
+use borrow.Author.Tests.{eq-eqb, ne-eqb}
 use mathlib.Core.Bool.{Bool, false, true}
 use mathlib.Core.List.{List}
-use mathlib.Core.Path.{_∙_, _≡_, ap, refl, sym}
-use Prim.Native.Nat.{ℕ, _<_, _≤_}
-use Rattle.limits.specs.Limits.{maxArity}
+use mathlib.Core.Path.{_∙_, _≡_, refl, sym}
+use Prim.Native.Nat.{ℕ}
+use lib.ListN.{length}
 use Rattle.tokens.specs.Expr.{wholeOf}
-use Rattle.tokens.specs.Limit.{limitAt}
-use Rattle.tokens.specs.declared.Limit.{Limit}
-use Rattle.asking.specs.Asks.{isPassed}
-use Rattle.expanding.specs.Asks.{bytesCause}
+use Rattle.asking.specs.Asks.{nameCause}
+use Rattle.query_strings.specs.declared.Queried.{Queried}
+use Rattle.expanding.specs.Asks.{limitCause, readCause}
 
-module _ (n : ℕ) (expr : List ℕ) (a : Bool) (is-a : a ≡ wholeOf expr) where
-  pub cause-bytes : a ≡ false → 3 ≡ bytesCause n expr
-  unfolding bytesCause
-  cause-bytes h = rw (sym is-a ∙ h) refl
+module _ (expr : List ℕ) (a : Bool) (is-a : a ≡ wholeOf expr) where
+  pub limit-one : a ≡ true → 5 ≡ limitCause expr
+  unfolding limitCause
+  limit-one h = rw (sym is-a ∙ h) refl
 
-  module _ (whole : a ≡ true) where
-    -- "a fourth parameter [is] 5"
-    pub cause-arity : maxArity < n → 5 ≡ bytesCause n expr
-    unfolding bytesCause
-    cause-arity h = rw (sym is-a ∙ whole, lt-ltb maxArity n h) refl
+  pub limit-none : a ≡ false → 3 ≡ limitCause expr
+  unfolding limitCause
+  limit-none h = rw (sym is-a ∙ h) refl
 
-    module _ (few : n ≤ maxArity) (l : Limit) (is-l : l ≡ limitAt expr 0) (d : Bool) (is-d : d ≡ isPassed l) where
-      pub cause-limit : d ≡ true → 5 ≡ bytesCause n expr
-      unfolding bytesCause
-      cause-limit h = rw (sym is-a ∙ whole, le-ltb maxArity n few, sym (is-d ∙ ap isPassed is-l) ∙ h) refl
+module _ (expr : List ℕ) (q : Queried) where
+  pub cause-limit : q .kept ≡ false → (r : ℕ) → r ≡ limitCause expr → r ≡ readCause expr q
+  unfolding readCause
+  cause-limit k r e = rw k e
 
-      pub cause-none : d ≡ false → 0 ≡ bytesCause n expr
-      unfolding bytesCause
-      cause-none h = rw (sym is-a ∙ whole, le-ltb maxArity n few, sym (is-d ∙ ap isPassed is-l) ∙ h) refl
+  module _ (kept : q .kept ≡ true) where
+    pub cause-left : (q .looked .next ≡ length expr → ⊥) → 3 ≡ readCause expr q
+    unfolding readCause
+    cause-left h = rw (kept, ne-eqb (q .looked .next) (length expr) h) refl
+
+    module _ (ends : q .looked .next ≡ length expr) where
+      pub cause-unknown : q .looked .unknown ≡ true → 9 ≡ readCause expr q
+      unfolding readCause nameCause
+      cause-unknown u = rw (kept, eq-eqb (q .looked .next) (length expr) ends, u) refl
+
+      pub cause-miscounted : q .looked .unknown ≡ false → q .looked .miscounted ≡ true → 10 ≡ readCause expr q
+      unfolding readCause nameCause
+      cause-miscounted u w = rw (kept, eq-eqb (q .looked .next) (length expr) ends, u, w) refl
+
+      pub cause-none : q .looked .unknown ≡ false → q .looked .miscounted ≡ false → 0 ≡ readCause expr q
+      unfolding readCause nameCause
+      cause-none u w = rw (kept, eq-eqb (q .looked .next) (length expr) ends, u, w) refl

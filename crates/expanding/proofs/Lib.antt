@@ -7,3 +7,4 @@ pub mod Written
 pub mod Answering
 pub mod Causes
 pub mod Replying
+pub mod Reading

@@ -1,11 +1,12 @@
 -- Each reply of the expansion query is the rules'.
-use borrow.Author.Tests.{ltb-false}
-use mathlib.Core.Bool.{Bool, cond, false, true}
+use borrow.Author.Tests.{le-ltb, lt-ltb, ltb-false}
+use mathlib.Core.Bool.{Bool, cond, false, not, true}
 use mathlib.Core.List.{List, [], _∷_}
 use mathlib.Core.Option.{Option, some}
 use mathlib.Core.Path.{_∙_, _≡_, ap, ap₂, refl, subst, sym}
 use Prim.Native.Nat.{ℕ, _+_, _<_, _≤_}
 use native.Mathlib.Omega.{arith}
+use lib.Dec.{eqb}
 use lib.ListN.{length}
 use Rattle.limits.specs.Limits.{maxArity, maxNesting}
 use Rattle.theory.specs.Term.{Term}
@@ -16,20 +17,31 @@ use Rattle.rules.specs.Query.{expansionBytesOf, orNoSuch, readIn, unlessCause, 
 use Rattle.rules.specs.Run.{Outcome, andThen, refusal}
 use Rattle.rules.specs.State.{Module, State, resolve}
 use Rattle.tokens.specs.Expr.{exprAt, wholeOf}
+use Rattle.tokens.specs.Limit.{keptOf, limitAt}
+use Rattle.tokens.proofs.Nesting.{limited}
 use Rattle.tokens.proofs.Writing.{Bytes}
+use Rattle.agree.specs.Folds.{searching}
 use Rattle.agree.proofs.Expressions.{whole-agrees, whole-read}
 use Rattle.context.specs.Holds.{moduleNo}
 use Rattle.context.specs.Parts.{part, placeOf}
 use Rattle.context.specs.Store.{contextCodes, store}
 use Rattle.context.specs.declared.Counts.{Counts}
+use Rattle.resolve.specs.Walk.{miscountedIn}
+use Rattle.skimming.specs.Kept.{isPassed}
+use Rattle.skimming.proofs.Ends.{kept-whole}
+use Rattle.skimming.proofs.Keeping.{kept-passed}
 use Rattle.worlds.specs.Rows.{Row}
 use Rattle.judge_plain.specs.declared.Phase.{Phase}
 use Rattle.standing.specs.Standing.{Standing}
 use Rattle.asking.specs.Asks.{NamesAsked, nameCause}
 use Rattle.asking.proofs.Judging.{asked-right, limit-law}
+use Rattle.asking.proofs.Noting.{kept-asked}
 use Rattle.asking.proofs.Replies.{found-module, no-module, none-spelt}
+use Rattle.templates.specs.Taking.{workBytes}
+use Rattle.query_strings.specs.Read.{QueryRead}
+use Rattle.query_strings.specs.declared.Queried.{Queried}
 use Rattle.expanding.proofs.Asked.{text, text-formed, text-found, text-low, text-term}
-use Rattle.expanding.specs.Asks.{RepliesIn, RepliesOf, RepliesTo, bytesCause}
+use Rattle.expanding.specs.Asks.{RepliesIn, RepliesOf, RepliesTo, limitCause, readCause}
 use Rattle.expanding.specs.Reports.{Reports}
 use Rattle.expanding.specs.declared.Expanded.{Expanded}
 use Rattle.expanding.specs.declared.Expanded.the-variants.{Refused}
@@ -65,18 +77,37 @@ no-names true w h = absurd (omega arith)
 no-names false true h = absurd (omega arith)
 no-names false false h = (refl, refl)
 
+limit-some : (expr : List ℕ) → limitCause expr ≡ 0 → ⊥
+unfolding limitCause
+limit-some expr z = go (wholeOf expr) z
+  where
+    go : (b : Bool) → _≡_ {A = ℕ} (cond b 5 3) 0 → ⊥
+    go true e = omega arith
+    go false e = omega arith
+
 module _ (n : ℕ) (expr : List ℕ) (bytes : Bytes expr) where
-  -- causes 3 and 5 of an expression that is spelt
-  bytes-law : (e : Expression) → wholeOf expr ≡ true → expression .read expr ≡ some e → bytesCause n expr ≡ limits (overArity n) (overLimit e)
+  -- causes 3 and 5 of the bytes and the number of parameters; 0 if none holds
+  bytesCause : ℕ
+  bytesCause = cond (wholeOf expr) (limits (overArity n) (isPassed (limitAt expr 0))) 3
+
+  bytes-law : (e : Expression) → wholeOf expr ≡ true → expression .read expr ≡ some e → bytesCause ≡ limits (overArity n) (overLimit e)
   unfolding bytesCause
   bytes-law e h q = rw (h, limit-law expr e q) refl
 
-  bytes-none : wholeOf expr ≡ false → bytesCause n expr ≡ 3
+  bytes-none : wholeOf expr ≡ false → bytesCause ≡ 3
   unfolding bytesCause
   bytes-none h = rw h refl
 
+  bytes-many : maxArity < n → bytesCause ≡ limitCause expr
+  unfolding bytesCause limitCause
+  bytes-many h = rw (lt-ltb maxArity n h) refl
+
+  bytes-few : n ≤ maxArity → bytesCause ≡ cond (wholeOf expr) (cond (isPassed (limitAt expr 0)) 5 0) 3
+  unfolding bytesCause
+  bytes-few h = rw (le-ltb maxArity n h) refl
+
   -- without these causes, an expression is spelt that keeps the limits, over at most three parameters
-  clear-spelt : bytesCause n expr ≡ 0 → (e : Expression) × (expression .read expr ≡ some e) × (limits (overArity n) (overLimit e) ≡ 0)
+  clear-spelt : bytesCause ≡ 0 → (e : Expression) × (expression .read expr ≡ some e) × (limits (overArity n) (overLimit e) ≡ 0)
   clear-spelt z = go (wholeOf expr) refl
     where
       go : (b : Bool) → wholeOf expr ≡ b → (e : Expression) × (expression .read expr ≡ some e) × (limits (overArity n) (overLimit e) ≡ 0)
@@ -91,13 +122,8 @@ module _ (file refs names facts contexts orders heads declared : List ℕ) (c : 
   abbrev Reply : State → Option Expression → Outcome (List ℕ)
   Reply s o = andThen (readIn s (moduleNo s m) [] n o) (End s)
 
-  in-order : (s : State) (e : Expression)
-      → Reply s (some e) ≡ InOrder (overArity n) (overLimit e) (unknown s (moduleNo s m .context) n e) (miscounted s (moduleNo s m .context) e) (s .fields)
-      (resolve s (moduleNo s m .context) e) (End s)
-  in-order s e = refl
-
   -- 3 and 5
-  pub reply-bytes : (r : ℕ) → r ≡ bytesCause n expr → (r ≡ 0 → ⊥)
+  reply-bytes : (r : ℕ) → r ≡ bytesCause n expr bytes → (r ≡ 0 → ⊥)
       → RepliesIn file refs names facts contexts orders heads declared c m n expr (Refused r (c .fields)) out out
   reply-bytes r is-r h = record { reply = λ fs s rs p words stands ended. (go s (stands .holds .fields) (wholeOf expr) refl, refl) }
     where
@@ -112,7 +138,7 @@ module _ (file refs names facts contexts orders heads declared : List ℕ) (c : 
           (resolve s (moduleNo s m .context) (y .0)) (End s) (λ z. h (law ∙ z))
           ∙ sym (ap₂ refusal law f)
 
-  module _ (clear : bytesCause n expr ≡ 0) (k : ℕ) (asked : NamesAsked names facts (contextCodes contexts heads m) n (exprAt maxNesting expr 0) k) where
+  module _ (clear : bytesCause n expr bytes ≡ 0) (k : ℕ) (asked : NamesAsked names facts (contextCodes contexts heads m) n (exprAt maxNesting expr 0) k) where
     spelt : (e : Expression) × (expression .read expr ≡ some e) × (limits (overArity n) (overLimit e) ≡ 0)
     spelt = clear-spelt n expr bytes clear
 
@@ -172,16 +198,81 @@ module _ (file refs names facts contexts orders heads declared : List ℕ) (c : 
           (0 + length expr) (text-found file fs s rs v c p refs words declared stands m ended expr bytes (spelt .0) (spelt .1) (causes .1) n k asked)
           (text-low file fs s rs v c p refs words declared stands m ended expr bytes (spelt .0) (spelt .1) (causes .1) n k asked) n few (rw term formed))
 
-    pub reply-names : (k ≡ 0 → ⊥) → RepliesIn file refs names facts contexts orders heads declared c m n expr (Refused k (c .fields)) out out
+    reply-names : (k ≡ 0 → ⊥) → RepliesIn file refs names facts contexts orders heads declared c m n expr (Refused k (c .fields)) out out
     reply-names h = record { reply = λ fs s rs p words stands ended. (names-refused fs s rs p words stands ended h, refl) }
 
-    pub reply-whole : k ≡ 0 → (r : Expanded) (out′ : List ℕ) → RepliesTo file refs names facts contexts orders heads declared c m expr r out out′
+    reply-whole : k ≡ 0 → (r : Expanded) (out′ : List ℕ) → RepliesTo file refs names facts contexts orders heads declared c m expr r out out′
         → RepliesIn file refs names facts contexts orders heads declared c m n expr r out out′
     reply-whole z r out′ to =
         record {
           reply = λ fs s rs p words stands ended.
               subst (λ (x : Outcome (List ℕ)). Reports x r out out′) (sym (no-cause fs s rs p words stands ended z)) (whole fs s rs p words stands ended z r out′ to);
         }
+
+  -- "a fourth parameter [is] 5"
+  pub reply-many : maxArity < n → (r : ℕ) → r ≡ limitCause expr
+      → RepliesIn file refs names facts contexts orders heads declared c m n expr (Refused r (c .fields)) out out
+  reply-many h r e = reply-bytes r (e ∙ sym (bytes-many n expr bytes h)) (λ z. limit-some expr (sym e ∙ z))
+
+  -- what was read
+  module _ (few : n ≤ maxArity) (shapes a : List ℕ) (q : Queried) (read : QueryRead expr names facts (contextCodes contexts heads m) declared shapes n a workBytes q) where
+    passed : isPassed (limitAt expr 0) ≡ not (q .kept)
+    passed =
+        ap isPassed (sym (limited expr 0 (keptOf (exprAt maxNesting expr 0)) refl))
+        ∙ kept-passed (searching (miscountedIn names facts (contextCodes contexts heads m))) 0 (exprAt maxNesting expr 0) (q .kept) (q .looked .miscounted)
+        (q .looked .next) (read .skims .miscounted)
+
+    ends : q .kept ≡ true → wholeOf expr ≡ eqb (q .looked .next) (length expr)
+    ends k =
+        kept-whole (searching (miscountedIn names facts (contextCodes contexts heads m))) 0 expr (q .kept) (q .looked .miscounted) (q .looked .next)
+        (read .skims .miscounted) k
+
+    bytes-read : (b : Bool) → q .kept ≡ b → bytesCause n expr bytes ≡ cond b (cond (eqb (q .looked .next) (length expr)) 0 3) (limitCause expr)
+    unfolding limitCause
+    bytes-read true k = bytes-few n expr bytes few ∙ rw (passed, k, ends k) refl
+    bytes-read false k = bytes-few n expr bytes few ∙ rw (passed, k) refl
+
+    asked : q .kept ≡ true → (k : ℕ) → k ≡ nameCause (q .looked .unknown) (q .looked .miscounted)
+        → NamesAsked names facts (contextCodes contexts heads m) n (exprAt maxNesting expr 0) k
+    asked h k e =
+        kept-asked names facts (contextCodes contexts heads m) n expr (q .kept) (q .looked .unknown) (q .looked .miscounted) (q .looked .next) (read .skims .unknown)
+        (read .skims .miscounted) h k e
+
+    pub reply-cause : (r : ℕ) → r ≡ readCause expr q → (r ≡ 0 → ⊥)
+        → RepliesIn file refs names facts contexts orders heads declared c m n expr (Refused r (c .fields)) out out
+    unfolding readCause
+    reply-cause r is-r h = go (q .kept) refl (eqb (q .looked .next) (length expr)) refl
+      where
+        go : (b : Bool) → q .kept ≡ b → (w : Bool) → eqb (q .looked .next) (length expr) ≡ w
+            → RepliesIn file refs names facts contexts orders heads declared c m n expr (Refused r (c .fields)) out out
+        go true k true w = reply-names (bytes-read true k ∙ rw w refl) r (asked k r (is-r ∙ rw (k, w) refl)) h
+        go true k false w =
+            let e : readCause expr q ≡ 3 = rw (k, w) refl in
+            reply-bytes r (is-r ∙ e ∙ sym (bytes-read true k ∙ rw w refl)) h
+        go false k b w =
+            let e : readCause expr q ≡ limitCause expr = rw k refl in
+            reply-bytes r (is-r ∙ e ∙ sym (bytes-read false k)) h
+
+    -- no cause
+    pub read-kept : readCause expr q ≡ 0 → q .kept ≡ true
+    unfolding readCause
+    read-kept z = go (q .kept) refl
+      where
+        go : (b : Bool) → q .kept ≡ b → q .kept ≡ true
+        go true k = k
+        go false k = absurd (limit-some expr (sym (rw k refl) ∙ z))
+
+    pub reply-clear : readCause expr q ≡ 0 → (r : Expanded) (out′ : List ℕ) → RepliesTo file refs names facts contexts orders heads declared c m expr r out out′
+        → RepliesIn file refs names facts contexts orders heads declared c m n expr r out out′
+    unfolding readCause
+    reply-clear z r out′ to = go (eqb (q .looked .next) (length expr)) refl
+      where
+        kept : q .kept ≡ true
+        kept = read-kept z
+
+        go : (w : Bool) → eqb (q .looked .next) (length expr) ≡ w → RepliesIn file refs names facts contexts orders heads declared c m n expr r out out′
+        go true w = reply-whole (bytes-read true kept ∙ rw w refl) 0 (asked kept 0 (sym z ∙ rw (kept, w) refl)) refl r out′ to
+        go false w = absurd (let y : _≡_ {A = ℕ} 3 0 = sym (rw (kept, w) refl) ∙ z in omega arith)
 
 -- The reply by a module's name.
 module _ (file refs names facts contexts orders heads declared : List ℕ) (c : Counts) (m n : ℕ) (expr out : List ℕ) (q : ℕ)

@@ -3,9 +3,9 @@ use mathlib.Core.Bool.{cond}
 use mathlib.Core.List.{List, []}
 use mathlib.Core.Path.{_≡_}
 use Prim.Native.Nat.{ℕ, _+_, _≤_, _<_}
-use lib.Dec.{ltb}
+use lib.Dec.{eqb}
 use lib.ListN.{length}
-use Rattle.limits.specs.Limits.{maxArity, maxDefinitions, maxNesting}
+use Rattle.limits.specs.Limits.{fileBytes, maxArity, maxDefinitions, maxNesting}
 use Rattle.theory.specs.Expand.{aritiesOf}
 use Rattle.theory.specs.Term.{WellFormed}
 use Rattle.rules.specs.Expression.{expression}
@@ -14,7 +14,6 @@ use Rattle.rules.specs.Query.{expansionBytesOf, expansionReply, readIn, unlessL
 use Rattle.rules.specs.Run.{andThen}
 use Rattle.rules.specs.State.{State, templatesOf}
 use Rattle.tokens.specs.Expr.{Expr, exprAt, found, wholeOf}
-use Rattle.tokens.specs.Limit.{limitAt}
 use Rattle.context.specs.Holds.{moduleNo}
 use Rattle.context.specs.Store.{contextCodes, store}
 use Rattle.context.specs.declared.Counts.{Counts}
@@ -25,13 +24,22 @@ use Rattle.unfolding.specs.InWorld.{termIn}
 use Rattle.spelling.specs.Strings.{LooksBelow, byContext}
 use Rattle.spelling.specs.Written.{placeOf}
 use Rattle.worlds.specs.Rows.{Row}
-use Rattle.asking.specs.Asks.{isPassed}
+use Rattle.templates.specs.Shaped.{DefinitionsShaped}
+use Rattle.templates.specs.Taking.{workBytes}
+use Rattle.asking.specs.Asks.{nameCause}
+use Rattle.query_strings.specs.Read.{QueryRead}
+use Rattle.query_strings.specs.declared.Queried.{Queried}
 use Rattle.expanding.specs.Reports.{Reports}
 use Rattle.expanding.specs.declared.Expanded.{Expanded}
 
--- causes 3 and 5 of the bytes and the number of parameters; 0 if none holds
-unfoldable pub bytesCause : ℕ → List ℕ → ℕ
-bytesCause n expr = cond (wholeOf expr) (cond (ltb maxArity n) 5 (cond (isPassed (limitAt expr 0)) 5 0)) 3
+-- the cause of a query that passes a limit: 5, or 3 if the bytes are not one expression
+unfoldable pub limitCause : List ℕ → ℕ
+limitCause expr = cond (wholeOf expr) 5 3
+
+-- the cause of an expression by what was read of it; 0 if none holds
+unfoldable pub readCause : List ℕ → Queried → ℕ
+readCause expr q =
+    cond (q .kept) (cond (eqb (q .looked .next) (length expr)) (nameCause (q .looked .unknown) (q .looked .miscounted)) 3) (limitCause expr)
 
 -- The reply to an expression without causes, in module m.
 pub record RepliesTo (file refs names facts contexts orders heads declared : List ℕ) (c : Counts) (m : ℕ) (expr : List ℕ) (r : Expanded) (before after : List ℕ) : Type 0 where
@@ -47,6 +55,13 @@ pub record RepliesIn (file refs names facts contexts orders heads declared : Lis
   pub reply : (fs : List Field) (s : State) (rs : List Row) (p : Phase) (words : List ℕ)
       → Standing file fs s rs (store names facts contexts orders heads) c p refs words declared → m < c .modules
       → Reports (andThen (readIn s (moduleNo s m) [] n (expression .read expr)) (λ t. unlessLonger (expansionBytesOf s t) (length before))) r before after
+
+-- The same of an expression that was read, its string in a, where the shapes are those of the definitions.
+pub record ReadReplies (file refs names facts contexts orders heads declared : List ℕ) (c : Counts) (expr : List ℕ) (q : Queried) (shapes a : List ℕ) (r : Expanded) (before after : List ℕ) : Type 0 where
+  pub reply : (m n : ℕ) → length file ≤ fileBytes → n ≤ maxArity
+      → DefinitionsShaped file refs (store names facts contexts orders heads) declared (c .declarations) (c .definitions) shapes
+      → QueryRead expr names facts (contextCodes contexts heads m) declared shapes n a workBytes q
+      → RepliesIn file refs names facts contexts orders heads declared c m n expr r before after
 
 -- The reply is the rules', if the arrays and counts show a state that some fields lead to.
 pub record RepliesOf (file refs names facts contexts orders heads declared : List ℕ) (c : Counts) (m n : ℕ) (expr : List ℕ) (r : Expanded) (before after : List ℕ) : Type 0 where

@@ -1,52 +1,55 @@
 // The reply of the expansion query, cause by cause, and then the expansion.
 ghost use mathlib.Core.Path.{_≡_};
-ghost use Prim.Native.Nat.{_≤_, _<_};
+ghost use Prim.Native.Nat.{_≤_};
 ghost use lib.ListN.{length};
-ghost use Rattle.limits.specs.Limits.{fileBytes, maxDefinitions, maxModules};
+ghost use Rattle.limits.specs.Limits.{fileBytes, maxArity, maxDefinitions, maxModules};
 ghost use Rattle.context.specs.Store.{store};
+ghost use Rattle.templates.specs.Shaped.{DefinitionsShaped};
 ghost use Rattle.templates.specs.Taking.{workBytes};
-ghost use Rattle.asking.specs.Asks.{isPassed};
-ghost use Rattle.expanding.specs.Asks.{RepliesIn, RepliesOf, RepliesTo, bytesCause};
+ghost use Rattle.tables.specs.Names.{Zeroed};
+ghost use Rattle.expanding.specs.Asks.{ReadReplies, RepliesIn, RepliesOf, limitCause, readCause};
 ghost use Rattle.expanding.specs.Held.{StringReplies};
 use crate::Expanded;
 use crate::output::put_out;
 use crate::passes::expansion;
-use asking::reading::names_cause;
 use context::Counts;
 use context::lookup::find_module;
 use limits::Limits;
-use spelling::query_string;
+use query_strings::Queried;
+use query_strings::query_string;
 use templates::shaping::shape_definitions;
-use tokens::Limit;
-use tokens::limit_at;
 use tokens::whole;
 
-// A string longer than this belongs to an expansion longer than 65,535 bytes.
+// A string longer than this belongs to an expansion longer than 65,535 bytes; the tables that an expression is read with are as long.
 const WORK_BYTES: usize = 131072;
 
-fn is_passed(x: Limit) -> bool
-    ensures { λ r. ⌜ r ≡ isPassed x ⌝ }
-{
-    match x {
-        Limit::Kept(_) => false,
-        Limit::Passed => true,
-    }
-}
-
-// Causes 3 and 5, to be asked before any walk: only a text within the limits is walked.
-fn bytes_cause(expr: &[u8], params: usize) -> u8
-    ensures { λ r. ⌜ r ≡ bytesCause params (now (expr .entry)) ⌝ }
+// The cause of a query that passes a limit.
+fn limit_cause(expr: &[u8]) -> u8
+    ensures { λ r. ⌜ r ≡ limitCause (now (expr .entry)) ⌝ }
 {
     if whole(expr) {
-        if Limits::ARITY < params {
-            return 5;
-        }
-        if is_passed(limit_at(expr, 0)) {
-            return 5;
-        }
-        return 0;
+        return 5;
     }
     3
+}
+
+// Causes 3, 5, 9 and 10 of an expression, by what was read of it.
+fn read_cause(expr: &[u8], q: Queried) -> u8
+    ensures { λ r. ⌜ r ≡ readCause (now (expr .entry)) q ⌝ }
+{
+    if q.kept {
+        if q.looked.next == expr.len() {
+            if q.looked.unknown {
+                return 9;
+            }
+            if q.looked.miscounted {
+                return 10;
+            }
+            return 0;
+        }
+        return 3;
+    }
+    limit_cause(expr)
 }
 
 // The reply to the term whose string stands in a.
@@ -92,9 +95,119 @@ fn expand_string(
     Expanded::Refused(18, 0)
 }
 
-// The reply in module m to an expression without causes, with memory to work in.
+// The reply to an expression that was read: its string stands in a. The place of a refusal is the number of fields.
+fn expand_read(
+    expr: &[u8],
+    q: Queried,
+    file: &[u8],
+    refs: &[u16],
+    names: &[u16],
+    facts: &[u16],
+    contexts: &[u16],
+    orders: &[u16],
+    heads: &[u16],
+    declared: &[u16],
+    c: Counts,
+    shapes: &[u8],
+    a: &mut [u8],
+    work: &mut [u8],
+    filled: &mut [u8],
+    out: &mut [u8],
+) -> Expanded
+    requires { ⌜ (length (now shapes) ≡ maxDefinitions) × (length (now a) ≡ workBytes) × (length (now work) ≡ workBytes) × (length (now filled) ≡ workBytes) ⌝ }
+    ensures { λ r. ⌜ ReadReplies (now (file .entry)) (now (refs .entry)) (now (names .entry)) (now (facts .entry)) (now (contexts .entry)) (now (orders .entry)) (now (heads .entry)) (now (declared .entry)) c (now (expr .entry)) q (now (shapes .entry)) (now (a .entry)) r (now (out .entry)) (now (out .exit)) ⌝ }
+{
+    let cause = read_cause(expr, q);
+    if cause != 0 {
+        return Expanded::Refused(cause, c.fields);
+    }
+    if q.fits {
+        let len = q.len;
+        if len <= a.len() {
+            return expand_string(
+                file,
+                refs,
+                names,
+                facts,
+                contexts,
+                orders,
+                heads,
+                declared,
+                c.declarations,
+                shapes,
+                a,
+                len,
+                work,
+                filled,
+                out,
+            );
+        }
+    }
+    Expanded::Refused(18, 0)
+}
+
+// The reply in module m, the shapes of the definitions being known. The tables that the expression is read with are made in the memory of
+// strings.
+fn expand_shaped(
+    expr: &[u8],
+    params: usize,
+    file: &[u8],
+    refs: &[u16],
+    names: &[u16],
+    facts: &[u16],
+    contexts: &[u16],
+    orders: &[u16],
+    heads: &[u16],
+    declared: &[u16],
+    c: Counts,
+    m: usize,
+    shapes: &[u8],
+    a: &mut [u8],
+    work: &mut [u8],
+    filled: &mut [u8],
+    out: &mut [u8],
+) -> Expanded
+    requires { ⌜ (m ≤ maxModules) × (length (now file) ≤ fileBytes) × (params ≤ maxArity) × DefinitionsShaped (now file) (now refs) (store (now names) (now facts) (now contexts) (now orders) (now heads)) (now declared) (c .declarations) (c .definitions) (now shapes) × (length (now a) ≡ workBytes) × (length (now work) ≡ workBytes) × Zeroed (now work) × (length (now filled) ≡ workBytes) ⌝ }
+    ensures { λ r. ⌜ RepliesIn (now (file .entry)) (now (refs .entry)) (now (names .entry)) (now (facts .entry)) (now (contexts .entry)) (now (orders .entry)) (now (heads .entry)) (now (declared .entry)) c m params (now (expr .entry)) r (now (out .entry)) (now (out .exit)) ⌝ }
+{
+    let q = query_string(
+        expr,
+        names,
+        facts,
+        contexts,
+        heads,
+        declared,
+        shapes,
+        m,
+        params,
+        work,
+        filled,
+        a,
+    );
+    expand_read(
+        expr,
+        q,
+        file,
+        refs,
+        names,
+        facts,
+        contexts,
+        orders,
+        heads,
+        declared,
+        c,
+        shapes,
+        a,
+        work,
+        filled,
+        out,
+    )
+}
+
+// The reply in module m, with memory to work in.
 fn expand_with(
     expr: &[u8],
+    params: usize,
     file: &[u8],
     refs: &[u16],
     names: &[u16],
@@ -111,10 +224,12 @@ fn expand_with(
     filled: &mut [u8],
     out: &mut [u8],
 ) -> Expanded
-    requires { ⌜ (m ≤ maxModules) × (length (now file) ≤ fileBytes) × (c .definitions ≤ maxDefinitions) × (length (now shapes) ≡ maxDefinitions) × (length (now a) ≡ workBytes) × (length (now work) ≡ workBytes) × (length (now filled) ≡ workBytes) ⌝ }
-    ensures { λ r. ⌜ RepliesTo (now (file .entry)) (now (refs .entry)) (now (names .entry)) (now (facts .entry)) (now (contexts .entry)) (now (orders .entry)) (now (heads .entry)) (now (declared .entry)) c m (now (expr .entry)) r (now (out .entry)) (now (out .exit)) ⌝ }
+    requires { ⌜ (m ≤ maxModules) × (length (now file) ≤ fileBytes) × (c .definitions ≤ maxDefinitions) × (length (now shapes) ≡ maxDefinitions) × (length (now a) ≡ workBytes) × (length (now work) ≡ workBytes) × Zeroed (now work) × (length (now filled) ≡ workBytes) ⌝ }
+    ensures { λ r. ⌜ RepliesIn (now (file .entry)) (now (refs .entry)) (now (names .entry)) (now (facts .entry)) (now (contexts .entry)) (now (orders .entry)) (now (heads .entry)) (now (declared .entry)) c m params (now (expr .entry)) r (now (out .entry)) (now (out .exit)) ⌝ }
 {
-    let n = c.declarations;
+    if Limits::ARITY < params {
+        return Expanded::Refused(limit_cause(expr), c.fields);
+    }
     shape_definitions(
         file,
         refs,
@@ -124,59 +239,13 @@ fn expand_with(
         orders,
         heads,
         declared,
-        n,
+        c.declarations,
         c.definitions,
         shapes,
     );
-    let q = query_string(expr, names, facts, contexts, heads, declared, shapes, m, a);
-    if q.fits {
-        let len = q.len;
-        if len <= a.len() {
-            return expand_string(
-                file,
-                refs,
-                names,
-                facts,
-                contexts,
-                orders,
-                heads,
-                declared,
-                n,
-                shapes,
-                a,
-                len,
-                work,
-                filled,
-                out,
-            );
-        }
-    }
-    Expanded::Refused(18, 0)
-}
-
-fn expand_spelt(
-    expr: &[u8],
-    file: &[u8],
-    refs: &[u16],
-    names: &[u16],
-    facts: &[u16],
-    contexts: &[u16],
-    orders: &[u16],
-    heads: &[u16],
-    declared: &[u16],
-    c: Counts,
-    m: usize,
-    out: &mut [u8],
-) -> Expanded
-    requires { ⌜ (m ≤ maxModules) × (length (now file) ≤ fileBytes) × (c .definitions ≤ maxDefinitions) ⌝ }
-    ensures { λ r. ⌜ RepliesTo (now (file .entry)) (now (refs .entry)) (now (names .entry)) (now (facts .entry)) (now (contexts .entry)) (now (orders .entry)) (now (heads .entry)) (now (declared .entry)) c m (now (expr .entry)) r (now (out .entry)) (now (out .exit)) ⌝ }
-{
-    let mut shapes = [0u8; Limits::DEFINITIONS];
-    let mut a = [0u8; WORK_BYTES];
-    let mut work = [0u8; WORK_BYTES];
-    let mut filled = [0u8; WORK_BYTES];
-    expand_with(
+    expand_shaped(
         expr,
+        params,
         file,
         refs,
         names,
@@ -187,49 +256,10 @@ fn expand_spelt(
         declared,
         c,
         m,
-        &mut shapes,
-        &mut a,
-        &mut work,
-        &mut filled,
-        out,
-    )
-}
-
-// The reply in module m to an expression that causes 3 and 5 do not hold of. The place of a refusal is the number of fields.
-fn expand_named(
-    expr: &[u8],
-    params: usize,
-    file: &[u8],
-    refs: &[u16],
-    names: &[u16],
-    facts: &[u16],
-    contexts: &[u16],
-    orders: &[u16],
-    heads: &[u16],
-    declared: &[u16],
-    c: Counts,
-    m: usize,
-    out: &mut [u8],
-) -> Expanded
-    requires { ⌜ (m ≤ maxModules) × (length (now file) ≤ fileBytes) × (c .definitions ≤ maxDefinitions) × (bytesCause params (now expr) ≡ 0) ⌝ }
-    ensures { λ r. ⌜ RepliesIn (now (file .entry)) (now (refs .entry)) (now (names .entry)) (now (facts .entry)) (now (contexts .entry)) (now (orders .entry)) (now (heads .entry)) (now (declared .entry)) c m params (now (expr .entry)) r (now (out .entry)) (now (out .exit)) ⌝ }
-{
-    let cause = names_cause(expr, names, facts, contexts, heads, m, params);
-    if cause != 0 {
-        return Expanded::Refused(cause, c.fields);
-    }
-    expand_spelt(
-        expr,
-        file,
-        refs,
-        names,
-        facts,
-        contexts,
-        orders,
-        heads,
-        declared,
-        c,
-        m,
+        shapes,
+        a,
+        work,
+        filled,
         out,
     )
 }
@@ -253,11 +283,11 @@ fn expand_in(
     requires { ⌜ (m ≤ maxModules) × (length (now file) ≤ fileBytes) × (c .definitions ≤ maxDefinitions) ⌝ }
     ensures { λ r. ⌜ RepliesIn (now (file .entry)) (now (refs .entry)) (now (names .entry)) (now (facts .entry)) (now (contexts .entry)) (now (orders .entry)) (now (heads .entry)) (now (declared .entry)) c m params (now (expr .entry)) r (now (out .entry)) (now (out .exit)) ⌝ }
 {
-    let cause = bytes_cause(expr, params);
-    if cause != 0 {
-        return Expanded::Refused(cause, c.fields);
-    }
-    expand_named(
+    let mut shapes = [0u8; Limits::DEFINITIONS];
+    let mut a = [0u8; WORK_BYTES];
+    let mut work = [0u8; WORK_BYTES];
+    let mut filled = [0u8; WORK_BYTES];
+    expand_with(
         expr,
         params,
         file,
@@ -270,6 +300,10 @@ fn expand_in(
         declared,
         c,
         m,
+        &mut shapes,
+        &mut a,
+        &mut work,
+        &mut filled,
         out,
     )
 }

@@ -33,7 +33,7 @@ fn of_definition(facts: &[u16], g: u16) -> Look
     Look::Ref(g, number_at(facts, Limits::COLUMNS * (g as usize)))
 }
 
-fn of_operator(facts: &[u16], x: Operator) -> Look
+pub fn of_operator(facts: &[u16], x: Operator) -> Look
     ensures { λ r. ⌜ r ≡ operatorRef (now (facts .entry)) x ⌝ }
 {
     match x {
@@ -44,7 +44,7 @@ fn of_operator(facts: &[u16], x: Operator) -> Look
     }
 }
 
-fn of_code(facts: &[u16], x: Code) -> Look
+pub fn of_code(facts: &[u16], x: Code) -> Look
     ensures { λ r. ⌜ r ≡ codeRef (now (facts .entry)) x ⌝ }
 {
     match x {

@@ -2,7 +2,7 @@
 use mathlib.Core.Bool.{Bool, false}
 use mathlib.Core.List.{List, [], _++_, _∷_, map}
 use mathlib.Core.Path.{_∙_, _≡_, ap, fun-ext, refl, subst, sym}
-use Prim.Native.Nat.{ℕ, zero, suc, _+_, _-_, _%_, _<_, _≤_, min}
+use Prim.Native.Nat.{ℕ, zero, suc, _+_, _%_, _<_, _≤_, min}
 use native.Mathlib.Omega.{arith}
 use borrow.Author.Tests.{leb-false, leb-true, lt-ltb}
 use lib.Dec.{leb}
@@ -19,12 +19,11 @@ use Rattle.texts.specs.Text.{Declarations, noDeclaration}
 use Rattle.symbols.specs.Symbol.{At, Symbol, bytesOf}
 use Rattle.symbols.specs.Spell.{spell}
 use Rattle.text_levels.proofs.OwnWorld.{AllRefsBelow, RefsBelow}
-use Rattle.standing.specs.Standing.{itselves}
 use Rattle.unfolding.specs.InWorld.{Place, byRefs, namedIn, termIn}
 use Rattle.spelling.specs.Put.{Put, paste}
 use Rattle.spelling.specs.Parts.{parts}
 use Rattle.spelling.specs.Written.{Led, Named, Wrote, declarationsIn, placeOf, shapeIn}
-use Rattle.spelling.specs.Strings.{AllLooksBelow, Bytes, ImpliedString, LooksBelow, NamesShown, Narrow, QueryString, ShapesFit, Spells, TextString, byContext, shapesOf}
+use Rattle.spelling.specs.Strings.{AllLooksBelow, Bytes, ImpliedString, LooksBelow, NamesShown, Narrow, ShapesFit, Spells, TextString, shapesOf}
 use Rattle.spelling.proofs.Heading.{name-shown, put-symbols}
 use Rattle.spelling.proofs.Small.{count-params, small, small-bytes, small-implied, small-string, small-text}
 use Rattle.spelling.proofs.Alike.{same-implied, same-string}
@@ -78,7 +77,7 @@ module _ (names declared : List ℕ) (names-fit : (i : ℕ) → getD names i 0 <
 
   -- what was put by the arrays is the string of a text, or of what a name implies
   module _ (shapes : List ℕ) (P : Place) (out out′ : List ℕ) (q′ : ℕ) (fits : Bool) (e : fits ≡ leb q′ (length out)) where
-    spells-text : (look : ℕ → Token → ℕ) (s : List ℕ) (bytes : (i : ℕ) → getD s i 0 < 256) (n at : ℕ) (t : Expr) (y : ℕ) → exprAt n s at ≡ found t y
+    pub spells-text : (look : ℕ → Token → ℕ) (s : List ℕ) (bytes : (i : ℕ) → getD s i 0 < 256) (n at : ℕ) (t : Expr) (y : ℕ) → exprAt n s at ≡ found t y
         → Put out 0 (bytesOf (spell (shapeIn shapes) (termIn look (declarationsIn names declared) P t))) out′ q′
         → (decls : Declarations) → LooksBelow (maxDefinitions + length decls) look t → length decls ≤ maxDeclarations → NamesShown names declared decls → ShapesFit shapes
         → Narrow (spell (shapesOf shapes) (termIn look decls P t)) → Spells (spell (shapesOf shapes) (termIn look decls P t)) out′ (length out) fits q′
@@ -109,7 +108,7 @@ module _ (names declared : List ℕ) (names-fit : (i : ℕ) → getD names i 0 <
         (subst (λ (gs : List Symbol). All small gs) (sym f) (small-implied (shapesOf shapes) ds P names-small r i p l)) narrow in
         spells-put (spell (shapesOf shapes) (namedIn decls P r us)) out out′ q′ fits (subst (λ (gs : List Symbol). Put out 0 (bytesOf gs) out′ q′) g d) b e
 
-found-put : (look : ℕ → Token → ℕ) (σ : ℕ → ℕ) (decls : Declarations) (P : Place) (f : Found) (out : List ℕ) (q : ℕ) (out′ : List ℕ) (q′ x : ℕ) (t : Expr) (y : ℕ) → f ≡ found t y
+pub found-put : (look : ℕ → Token → ℕ) (σ : ℕ → ℕ) (decls : Declarations) (P : Place) (f : Found) (out : List ℕ) (q : ℕ) (out′ : List ℕ) (q′ x : ℕ) (t : Expr) (y : ℕ) → f ≡ found t y
     → Wrote look σ decls P f out q out′ q′ x → Put out q (bytesOf (spell σ (termIn look decls P t))) out′ q′
 unfolding Wrote
 found-put look σ decls P f out q out′ q′ x t y p w =
@@ -157,19 +156,4 @@ implied-string names declared numbers shapes r level outer p k j i out out₁ al
     record {
       string = λ decls below few shown fit narrow.
           spells-implied names declared names-fit shapes P out out′ q′ fits e r (outer + p) k lk w decls below few shown fit narrow;
-    }
-
-pub query-string : (expr names facts cs declared numbers shapes : List ℕ) (out out′ : List ℕ) (q′ x : ℕ) (fits : Bool) → ((i : ℕ) → getD expr i 0 < 256)
-    → ((i : ℕ) → getD names i 0 < 65536) → numbers ≡ itselves
-    → Wrote (byContext names facts cs) (shapeIn shapes) (declarationsIn names declared) (placeOf 0 0 numbers) (exprAt maxNesting expr 0) out 0 out′ q′ x
-    → fits ≡ leb q′ (length out′) → length out′ ≡ length out → QueryString expr names facts cs declared shapes out′ (length out) fits q′
-query-string expr names facts cs declared numbers shapes out out′ q′ x fits bytes names-fit own w f l =
-    let e : fits ≡ leb q′ (length out) = f ∙ ap (leb q′) l in
-    let look : ℕ → Token → ℕ = byContext names facts cs in
-    let P : Place = placeOf 0 0 itselves in
-    let w′ : Wrote look (shapeIn shapes) (declarationsIn names declared) P (exprAt maxNesting expr 0) out 0 out′ q′ x = rw own at w in
-    record {
-      string = λ decls t y p below few shown fit narrow.
-          spells-text names declared names-fit shapes P out out′ q′ fits e look expr bytes maxNesting 0 t y p
-          (found-put look (shapeIn shapes) (declarationsIn names declared) P (exprAt maxNesting expr 0) out 0 out′ q′ x t y p w′) decls below few shown fit narrow;
     }

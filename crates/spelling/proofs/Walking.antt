@@ -15,17 +15,13 @@ use Rattle.tokens.specs.Expr.{Expr, Exprs, Found, Founds, after, before, exprAt
 use Rattle.tokens.specs.declared.Token.{Token}
 use Rattle.tokens.specs.declared.Token.the-variants.{BuiltIn, Bound, InstanceOperator, Literal, Name, NoToken, Parameter}
 use Rattle.tokens.proofs.Reading.{expr-more, expr-none, expr-zero, several-more}
-use Rattle.resolve.specs.Look.{lookIn}
-use Rattle.resolve.specs.Walk.{numberIn, numberOf}
-use Rattle.resolve.specs.declared.Look.{Look}
 use Rattle.texts.specs.Text.{Declarations}
 use Rattle.symbols.specs.Symbol.{Symbol, begin, bytesOf, end}
 use Rattle.symbols.specs.Spell.{bracketed, spell}
 use Rattle.unfolding.specs.InWorld.{Place, byRefs, termIn, termsIn, tokenIn}
 use Rattle.spelling.specs.Put.{Put}
 use Rattle.spelling.specs.Parts.{Closed, Opened, boundBefore, isWritten, part, parts}
-use Rattle.spelling.specs.Written.{AllWrote, ArgumentWrote, Headed, Wrote, placeOf}
-use Rattle.spelling.specs.Strings.{byContext}
+use Rattle.spelling.specs.Written.{AllWrote, ArgumentWrote, Headed, Wrote}
 use Rattle.spelling.proofs.Putting.{put-append, put-none, put-past}
 use Rattle.spelling.proofs.Heading.{put-symbols}
 
@@ -172,21 +168,3 @@ pub text-token : (refs : List ℕ) (σ : ℕ → ℕ) (decls : Declarations) (P 
     → AllWrote (byRefs refs) σ decls P (several (exprAt (n - 1) s) (at + w) k) k all m binds out₁ q₁ out′ q′ x → Wrote (byRefs refs) σ decls P (exprAt n s at) out q out′ q′ x
 text-token refs σ decls P n s at out q out′ q′ x t i r w k all m binds out₁ q₁ h p f g hr d hw hk a =
     wrote-token (byRefs refs) σ decls P n s at out q out′ q′ x t i r w k all m binds out₁ q₁ h p f g hr d hw hk a
-
--- by the context
-pub asked-token : (names facts cs : List ℕ) (σ : ℕ → ℕ) (decls : Declarations) (P : Place) (n : ℕ) (s : List ℕ) (at : ℕ) (out : List ℕ) (q : ℕ) (out′ : List ℕ) (q′ x : ℕ) (t : Token) (i : Bool)
-    (w k : ℕ) (all : Bool) (m : ℕ) (binds : Bool) (out₁ : List ℕ) (q₁ : ℕ) → (n ≡ 0 → ⊥) → t ≡ tokenAt s at → i ≡ isToken t
-    → i ≡ true → Headed σ decls P t (numberIn names facts cs t) out q out₁ all m binds q₁ → w ≡ widthOf t → k ≡ argumentsOf t
-    → AllWrote (byContext names facts cs) σ decls P (several (exprAt (n - 1) s) (at + w) k) k all m binds out₁ q₁ out′ q′ x
-    → Wrote (byContext names facts cs) σ decls P (exprAt n s at) out q out′ q′ x
-asked-token names facts cs σ decls P n s at out q out′ q′ x t i w k all m binds out₁ q₁ h p f g d hw hk a =
-    wrote-token (byContext names facts cs) σ decls P n s at out q out′ q′ x t i (numberIn names facts cs t) w k all m binds out₁ q₁ h p f g refl d hw hk a
-
--- a token that is looked up
-pub looked-up : (names facts cs : List ℕ) (t : Token) (l : Look) (r : ℕ) → l ≡ lookIn names facts cs t → r ≡ numberOf l → r ≡ numberIn names facts cs t
-looked-up names facts cs t l r e f = f ∙ ap numberOf e
-
-pub asked-headed : (σ : ℕ → ℕ) (decls : Declarations) (level outer : ℕ) (numbers : List ℕ) (t : Token) (r k : ℕ) (out : List ℕ) (q : ℕ) (out′ : List ℕ) (all : Bool) (m : ℕ) (binds : Bool) (q′ : ℕ)
-    → level ≡ 0 → outer ≡ 0 → r ≡ k → Headed σ decls (placeOf level outer numbers) t r out q out′ all m binds q′
-    → Headed σ decls (placeOf 0 0 numbers) t k out q out′ all m binds q′
-asked-headed σ decls level outer numbers t r k out q out′ all m binds q′ el eo e h = rw (el, eo, e) at h

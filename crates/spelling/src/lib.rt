@@ -1,19 +1,15 @@
 // From a text of the file to its string of symbols: what each name was resolved to, and how the text is brought, are given by tables.
-pub mod ask;
 pub mod heads;
 pub mod put;
 pub mod walk;
 
 ghost use Prim.Native.Nat.{_<_, _≤_};
 ghost use lib.ListN.{length};
-ghost use Rattle.limits.specs.Limits.{maxArity, maxModules};
-ghost use Rattle.context.specs.Store.{contextCodes};
-ghost use Rattle.spelling.specs.Strings.{ImpliedString, QueryString, TextString};
-use crate::ask::ask_expr;
+ghost use Rattle.limits.specs.Limits.{maxArity};
+ghost use Rattle.spelling.specs.Strings.{ImpliedString, TextString};
 use crate::heads::leads;
 use crate::heads::named;
 use crate::walk::write_expr;
-use levels::names::identity;
 use limits::Limits;
 
 // How a text is brought: how many instances have been entered, and how many parameters they have.
@@ -109,45 +105,6 @@ pub fn implied_string(
         0,
     );
     let a = leads(out, outer + p, k, rest);
-    let len = a.to;
-    Spelled {
-        fits: len <= out.len(),
-        len,
-    }
-}
-
-// The string of the expression that the bytes begin with, its names looked up in the context of module m.
-pub fn query_string(
-    expr: &[u8],
-    names: &[u16],
-    facts: &[u16],
-    contexts: &[u16],
-    heads: &[u16],
-    declared: &[u16],
-    shapes: &[u8],
-    m: usize,
-    out: &mut [u8],
-) -> Spelled
-    requires { ⌜ m ≤ maxModules ⌝ }
-    ensures { λ r. ⌜ QueryString (now (expr .entry)) (now (names .entry)) (now (facts .entry)) (contextCodes (now (contexts .entry)) (now (heads .entry)) m) (now (declared .entry)) (now (shapes .entry)) (now (out .exit)) (length (now (out .entry))) (r .fits) (r .len) ⌝ }
-{
-    let mut own = [0u16; Limits::DEFINITIONS];
-    identity(&mut own);
-    let a = ask_expr(
-        expr,
-        names,
-        facts,
-        contexts,
-        heads,
-        declared,
-        &own,
-        shapes,
-        out,
-        0,
-        Limits::NESTING,
-        m,
-        0,
-    );
     let len = a.to;
     Spelled {
         fits: len <= out.len(),

@@ -1,4 +1,5 @@
 pub mod Numbers
+pub mod Firsts
 pub mod Storing
 pub mod Defining
 pub mod Highest

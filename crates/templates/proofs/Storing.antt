@@ -30,7 +30,7 @@ use Rattle.unfolding.specs.StandIn.{entryOf, levelOf, outermost}
 use Rattle.spelling.specs.Strings.{ShapesFit, shapesOf}
 use Rattle.callees.specs.Results.{OwnString, StandInString, Strung}
 use Rattle.templates.proofs.Numbers.{along-named, along-on, own-near, own-text, standin-below, standin-near, standin-text}
-use Rattle.templates.specs.Shaped.{Along, ChainHeld, Kept, OwnShape, StandInShape, StandInsStored, firstStandIn, shapeCount}
+use Rattle.templates.specs.Shaped.{Along, ChainHeld, Kept, NextShape, OwnShape, ShapedBelow, StandInShape, StandInsStored, firstStandIn, shapeCount}
 use Rattle.templates.specs.Told.{Told}
 
 -- the shape of a string that stands in the memory
@@ -109,8 +109,7 @@ pub record Storing (file refs : List ℕ) (v : Store) (declared : List ℕ) (n k
   pub fit : ShapesFit before → ShapesFit along
   pub kept : (i : ℕ) → i < firstStandIn → getD along i 0 ≡ getD before i 0
   pub right : (x : Told file refs v declared n) (d : ℕ) → d < x .counts .definitions → ChainHeld file refs v declared n d k numbers currents outers x → ShapesFit before
-      → (i : ℕ) → i < m → Along file refs v declared n d k i x
-      → getD along i 0 ≡ shapeOf (spell (shapesOf along) (standInTerm file refs v (x .decls) numbers currents outers (levelOf i - 1) (entryOf i)))
+      → ShapedBelow file refs v declared n d k m numbers currents outers along x
 
 module _ (file refs : List ℕ) (v : Store) (declared : List ℕ) (n k : ℕ) (numbers currents outers : List ℕ) where
   pub storing-start : (along : List ℕ) → Storing file refs v declared n k numbers currents outers along along firstStandIn
@@ -124,13 +123,12 @@ module _ (file refs : List ℕ) (v : Store) (declared : List ℕ) (n k : ℕ) (n
       }
 
   pub storing-turn : (before along : List ℕ) (m r : ℕ) → Storing file refs v declared n k numbers currents outers before along m → m < length along
-      → StandInShape file refs v declared n m numbers currents outers along r
-      → Storing file refs v declared n k numbers currents outers before (set along m r) (m + 1)
+      → NextShape file refs v declared n m numbers currents outers along r → Storing file refs v declared n k numbers currents outers before (set along m r) (m + 1)
   storing-turn before along m r s inside h =
       record {
         high = omega (arith, s .high);
         long = length-set along m r ∙ s .long;
-        fit = λ f. set-fit along m r (h .small) (s .fit f);
+        fit = λ f. set-fit along m r (h .small (s .fit f)) (s .fit f);
         kept = λ i q. getD-set-other along m i r 0 (λ (z : i ≡ m). omega (arith, s .high)) ∙ s .kept i q;
         right = right;
       }
@@ -158,7 +156,7 @@ module _ (file refs : List ℕ) (v : Store) (declared : List ℕ) (n k : ℕ) (n
               let here : getD (set along i r) i 0 ≡ r = getD-set-same along i r 0 (omega arith) in
               let told : r ≡ shapeOf (spell (shapesOf along) (standInTerm file refs v (x .decls) numbers currents outers (levelOf i - 1) (entryOf i))) =
               subst (λ (j : ℕ). r ≡ shapeOf (spell (shapesOf along) (standInTerm file refs v (x .decls) numbers currents outers (levelOf j - 1) (entryOf j)))) (sym z)
-              (h .right x d k there chain (s .fit fit) (subst (λ (j : ℕ). Along file refs v declared n d k j x) z a)) in
+              (h .right x d k there chain (s .fit fit) (s .right x d there chain fit) (subst (λ (j : ℕ). Along file refs v declared n d k j x) z a)) in
               ap (λ (j : ℕ). getD (set along j r) i 0) (sym z) ∙ here ∙ told ∙ ap shapeOf same
 
   pub storing-end : (before along : List ℕ) (m : ℕ) → Storing file refs v declared n k numbers currents outers before along m
@@ -184,3 +182,7 @@ module _ (file refs : List ℕ) (v : Store) (declared : List ℕ) (n k : ℕ) (n
           s .right x d there chain fit (standIn (suc j) (maxDefinitions + i)) (omega arith) a
           ∙ ap (λ (y : ℕ). shapeOf (spell (shapesOf along) (standInTerm file refs v (x .decls) numbers currents outers y (entryOf (standIn (suc j) (maxDefinitions + i)))))) lq
           ∙ ap (λ (y : ℕ). shapeOf (spell (shapesOf along) (standInTerm file refs v (x .decls) numbers currents outers j y))) qe
+
+  -- no level, no stand-in
+  pub storing-none : (along : List ℕ) → k ≡ 0 → StandInsStored file refs v declared n k numbers currents outers along along
+  storing-none along e = storing-end along along firstStandIn (storing-start along) (omega arith)

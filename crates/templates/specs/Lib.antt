@@ -1,4 +1,5 @@
 pub mod Told
+pub mod Alike
 pub mod Shaped
 pub mod Highest
 pub mod Taking

@@ -52,7 +52,20 @@ pub record OwnShape (file refs : List ℕ) (v : Store) (declared : List ℕ) (n 
   pub right : (x : Told file refs v declared n) (d : ℕ) → d < x .counts .definitions → ChainHeld file refs v declared n d k numbers currents outers x → ShapesFit along
       → r ≡ shapeOf (spell (shapesOf along) (ownTerm file refs (v .facts) (x .decls) k numbers currents outers))
 
--- Those of k levels have been stored; nothing else has changed.
+-- the stand-ins of numbers below m along the chain of definition d have their shapes
+abbrev pub ShapedBelow : (file refs : List ℕ) (v : Store) (declared : List ℕ) (n d k m : ℕ) (numbers currents outers along : List ℕ) → Told file refs v declared n → Type 0
+ShapedBelow file refs v declared n d k m numbers currents outers along x =
+    (i : ℕ) → i < m → Along file refs v declared n d k i x
+    → getD along i 0 ≡ shapeOf (spell (shapesOf along) (standInTerm file refs v (x .decls) numbers currents outers (levelOf i - 1) (entryOf i)))
+
+-- Where they have, r is the shape of stand-in m.
+pub record NextShape (file refs : List ℕ) (v : Store) (declared : List ℕ) (n m : ℕ) (numbers currents outers along : List ℕ) (r : ℕ) : Type 0 where
+  pub small : ShapesFit along → r < 128
+  pub right : (x : Told file refs v declared n) (d k : ℕ) → d < x .counts .definitions → ChainHeld file refs v declared n d k numbers currents outers x → ShapesFit along
+      → ShapedBelow file refs v declared n d k m numbers currents outers along x → Along file refs v declared n d k m x
+      → r ≡ shapeOf (spell (shapesOf along) (standInTerm file refs v (x .decls) numbers currents outers (levelOf m - 1) (entryOf m)))
+
+-- The shapes of the stand-ins of k levels have been stored; nothing else has changed.
 pub record StandInsStored (file refs : List ℕ) (v : Store) (declared : List ℕ) (n k : ℕ) (numbers currents outers along along′ : List ℕ) : Type 0 where
   pub long : length along′ ≡ length along
   pub fit : ShapesFit along → ShapesFit along′

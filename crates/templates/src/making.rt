@@ -1,6 +1,7 @@
 // The template of a definition: the string of its text, from which the stand-ins are taken out, the highest number first, until only
 // definitions below it are called.
 ghost use mathlib.Core.Bool.{_&&_};
+use crate::Room;
 use crate::shaping::prepare;
 use callees::strings::own_string;
 use callees::strings::standin_string;
@@ -390,11 +391,11 @@ pub fn template(
     requires { ⌜ (length (now shapes) ≡ maxDefinitions) × (d < maxDefinitions) × (length (now work) ≡ workBytes) × (length (now filled) ≡ workBytes) ⌝ }
     ensures { λ r. ⌜ TemplateMade (now (file .entry)) (now (refs .entry)) (store (now (names .entry)) (now (facts .entry)) (now (contexts .entry)) (now (orders .entry)) (now (heads .entry))) (now (declared .entry)) n d (now (shapes .entry)) (now (work .exit)) r ⌝ }
 {
-    let mut numbers = [0u16; 16 * Limits::DEFINITIONS];
-    let mut currents = [0u16; 16];
-    let mut outers = [0u16; 16];
-    let mut text = [0u8; 65536];
-    let mut along = [0u8; 1280];
+    let mut numbers = [0u16; Room::LEVELS * Limits::DEFINITIONS];
+    let mut currents = [0u16; Room::LEVELS];
+    let mut outers = [0u16; Room::LEVELS];
+    let mut text = [0u8; Room::TEXT];
+    let mut along = [0u8; Room::SHAPES];
     make_template(
         file,
         refs,

@@ -1,4 +1,6 @@
 // The shapes of the stand-ins along a chain, and of all definitions, each worked out from the string of its text.
+use crate::Room;
+use crate::alike::note_firsts;
 use callees::chain::enter_chain;
 use callees::strings::own_string;
 use callees::strings::standin_string;
@@ -12,7 +14,8 @@ ghost use Rattle.limits.specs.Limits.{fileBytes, maxDefinitions};
 ghost use Rattle.context.specs.Store.{store};
 ghost use Rattle.callees.specs.Walk.{Sized};
 ghost use Rattle.unfolding.specs.CalleeTerm.{maxLinks};
-ghost use Rattle.templates.specs.Shaped.{Begun, Cleared, DefinitionStored, DefinitionsShaped, Kept, OwnShape, Prepared, StandInShape, StandInsStored, firstStandIn, shapeCount};
+ghost use Rattle.templates.specs.Alike.{FirstsNoted};
+ghost use Rattle.templates.specs.Shaped.{Begun, Cleared, DefinitionStored, DefinitionsShaped, Kept, NextShape, OwnShape, Prepared, StandInShape, StandInsStored, firstStandIn, shapeCount};
 
 fn kept_shape(h: u8) -> u8
     ensures { λ r. ⌜ Kept h r ⌝ }
@@ -26,7 +29,7 @@ fn begin_shapes(shapes: &[u8], along: &mut [u8])
     ensures { λ r. ⌜ Begun (now (shapes .entry)) (now (along .exit)) ⌝ }
 {
     let mut i: usize = 0;
-    while i < 1280 {
+    while i < Room::SHAPES {
         along[i] = byte_at(shapes, i);
         i += 1;
     }
@@ -74,7 +77,104 @@ fn standin_shape(
     kept_shape(shape_of(text, t.len))
 }
 
+// The shape of stand-in m, those before it being there: it is that of an earlier one of the same level whose declaration is like its own.
+fn next_shape(
+    file: &[u8],
+    refs: &[u16],
+    names: &[u16],
+    facts: &[u16],
+    contexts: &[u16],
+    orders: &[u16],
+    heads: &[u16],
+    declared: &[u16],
+    n: usize,
+    firsts: &[u8],
+    numbers: &[u16],
+    currents: &[u16],
+    outers: &[u16],
+    text: &mut [u8],
+    along: &[u8],
+    m: usize,
+) -> u8
+    requires { ⌜ FirstsNoted (now names) (now facts) (now declared) (now firsts) × Sized (now numbers) (now currents) (now outers) × (length (now text) ≡ 2 * fileBytes) × (length (now along) ≡ shapeCount) × (firstStandIn ≤ m) × (m < shapeCount) ⌝ }
+    ensures { λ r. ⌜ NextShape (now (file .entry)) (now (refs .entry)) (store (now (names .entry)) (now (facts .entry)) (now (contexts .entry)) (now (orders .entry)) (now (heads .entry))) (now (declared .entry)) n m (now (numbers .entry)) (now (currents .entry)) (now (outers .entry)) (now (along .entry)) r ⌝ }
+{
+    let e = (m - Limits::DEFINITIONS) % Limits::DECLARATIONS;
+    if n <= e {
+        return 0;
+    }
+    let f = byte_at(firsts, e) as usize;
+    if f < e {
+        return byte_at(along, m - e + f);
+    }
+    standin_shape(
+        file,
+        refs,
+        names,
+        facts,
+        contexts,
+        orders,
+        heads,
+        declared,
+        n,
+        numbers,
+        currents,
+        outers,
+        text,
+        along,
+        m,
+    )
+}
+
 // The shapes of the stand-ins of k levels.
+fn shape_levels(
+    file: &[u8],
+    refs: &[u16],
+    names: &[u16],
+    facts: &[u16],
+    contexts: &[u16],
+    orders: &[u16],
+    heads: &[u16],
+    declared: &[u16],
+    n: usize,
+    firsts: &[u8],
+    numbers: &[u16],
+    currents: &[u16],
+    outers: &[u16],
+    text: &mut [u8],
+    along: &mut [u8],
+    k: usize,
+)
+    requires { ⌜ FirstsNoted (now names) (now facts) (now declared) (now firsts) × Sized (now numbers) (now currents) (now outers) × (length (now text) ≡ 2 * fileBytes) × (length (now along) ≡ shapeCount) × (k ≤ maxLinks) ⌝ }
+    ensures { λ r. ⌜ StandInsStored (now (file .entry)) (now (refs .entry)) (store (now (names .entry)) (now (facts .entry)) (now (contexts .entry)) (now (orders .entry)) (now (heads .entry))) (now (declared .entry)) n k (now (numbers .entry)) (now (currents .entry)) (now (outers .entry)) (now (along .entry)) (now (along .exit)) ⌝ }
+{
+    let end = Limits::DEFINITIONS + Limits::DECLARATIONS * (k + 1);
+    let mut m: usize = Limits::DEFINITIONS + Limits::DECLARATIONS;
+    while m < end {
+        let h = next_shape(
+            file,
+            refs,
+            names,
+            facts,
+            contexts,
+            orders,
+            heads,
+            declared,
+            n,
+            firsts,
+            numbers,
+            currents,
+            outers,
+            text,
+            along,
+            m,
+        );
+        along[m] = h;
+        m += 1;
+    }
+}
+
+// The same, the declarations that are alike being worked out; without any level they are not asked for.
 fn shape_standins(
     file: &[u8],
     refs: &[u16],
@@ -95,29 +195,29 @@ fn shape_standins(
     requires { ⌜ Sized (now numbers) (now currents) (now outers) × (length (now text) ≡ 2 * fileBytes) × (length (now along) ≡ shapeCount) × (k ≤ maxLinks) ⌝ }
     ensures { λ r. ⌜ StandInsStored (now (file .entry)) (now (refs .entry)) (store (now (names .entry)) (now (facts .entry)) (now (contexts .entry)) (now (orders .entry)) (now (heads .entry))) (now (declared .entry)) n k (now (numbers .entry)) (now (currents .entry)) (now (outers .entry)) (now (along .entry)) (now (along .exit)) ⌝ }
 {
-    let end = Limits::DEFINITIONS + Limits::DECLARATIONS * (k + 1);
-    let mut m: usize = Limits::DEFINITIONS + Limits::DECLARATIONS;
-    while m < end {
-        let h = standin_shape(
-            file,
-            refs,
-            names,
-            facts,
-            contexts,
-            orders,
-            heads,
-            declared,
-            n,
-            numbers,
-            currents,
-            outers,
-            text,
-            along,
-            m,
-        );
-        along[m] = h;
-        m += 1;
+    if k == 0 {
+        return;
     }
+    let mut firsts = [0u8; Limits::DECLARATIONS];
+    note_firsts(names, facts, declared, &mut firsts);
+    shape_levels(
+        file,
+        refs,
+        names,
+        facts,
+        contexts,
+        orders,
+        heads,
+        declared,
+        n,
+        &firsts,
+        numbers,
+        currents,
+        outers,
+        text,
+        along,
+        k,
+    );
 }
 
 // The chain of definition d, with the shapes along it; how many links it has.
@@ -336,11 +436,11 @@ pub fn shape_definitions(
     requires { ⌜ (length (now shapes) ≡ maxDefinitions) × (count ≤ maxDefinitions) ⌝ }
     ensures { λ r. ⌜ DefinitionsShaped (now (file .entry)) (now (refs .entry)) (store (now (names .entry)) (now (facts .entry)) (now (contexts .entry)) (now (orders .entry)) (now (heads .entry))) (now (declared .entry)) n count (now (shapes .exit)) ⌝ }
 {
-    let mut numbers = [0u16; 16 * Limits::DEFINITIONS];
-    let mut currents = [0u16; 16];
-    let mut outers = [0u16; 16];
-    let mut text = [0u8; 65536];
-    let mut along = [0u8; 1280];
+    let mut numbers = [0u16; Room::LEVELS * Limits::DEFINITIONS];
+    let mut currents = [0u16; Room::LEVELS];
+    let mut outers = [0u16; Room::LEVELS];
+    let mut text = [0u8; Room::TEXT];
+    let mut along = [0u8; Room::SHAPES];
     shape_all(
         file,
         refs,

@@ -1,19 +1,23 @@
--- `reply_of`: 5 before 9 before 10.
-use Rattle.asking.proofs.Causes.{reply-limit, reply-miscounted, reply-right, reply-unknown}
+-- `reply_of`: by where the walk ended.
+use Rattle.asking.proofs.Causes.{reply-kept, reply-left-over, reply-limit}
+use borrow.Author.Needs.{needs}
 use Rattle.asking.proofs.reply_of.Statement.{statement}
 use Rattle.asking.proofs.reply_of.Tie as tie
 
+kept-reply-requires : tie.Need-kept-reply-requires
+kept-reply-requires c κs = search needs
+
 returns : tie.Need-returns
-returns c = search reply-unknown
+returns c = search reply-kept
 
 returns-2 : tie.Need-returns-2
-returns-2 c = search reply-miscounted
+returns-2 c = search reply-left-over
+
+limit-cause-requires : tie.Need-limit-cause-requires
+limit-cause-requires c κs = search needs
 
 returns-3 : tie.Need-returns-3
-returns-3 c = search reply-right
-
-returns-4 : tie.Need-returns-4
-returns-4 c = search reply-limit
+returns-3 c = search reply-limit
 
 pub reply-of-spec : {M : Type 1} → statement M
-reply-of-spec = tie.close (tie.spec returns returns-2 returns-3 returns-4)
+reply-of-spec = tie.close (tie.spec kept-reply-requires returns returns-2 limit-cause-requires returns-3)

@@ -1,5 +1,5 @@
 -- `heads::highest`: by the number of arguments.
-use Rattle.asking.proofs.Heading.{highest-none, highest-one, highest-three, highest-two}
+use Rattle.asking.proofs.Heading.{highest-one, highest-three, highest-two}
 use borrow.Author.Needs.{needs}
 use Rattle.asking.proofs.heads.highest.Statement.{statement}
 use Rattle.asking.proofs.heads.highest.Tie as tie

@@ -14,14 +14,14 @@ use Rattle.asking.proofs.walk.+walk_args+walk_expr.Lts-walk_args as wal
 use Rattle.asking.proofs.walk.walk_expr.Reads as walk-expr
 use Rattle.asking.proofs.walk.walk_expr.Kinds as walk-expr-kinds
 use Rattle.asking.proofs.walk.+walk_args+walk_expr.Lts-walk_expr as walk-expr-lts
-use Rattle.asking.proofs.walk.arguments_in.Reads as arguments-in-reads
+use Rattle.tables.proofs.token.arguments_in.Reads as arguments-in-reads
 use Rattle.asking.proofs.walk.inside.Reads as inside-reads
 use Rattle.asking.proofs.walk.no_args.Reads as no-args-reads
 use Rattle.asking.proofs.walk.one.Reads as one-reads
-use Rattle.asking.proofs.walk.over_args.Reads as over-args-reads
+use Rattle.asking.proofs.over.over_args.Reads as over-args-reads
 use Rattle.asking.proofs.walk.stopped.Reads as stopped-reads
 use Rattle.asking.proofs.walk.three.Reads as three-reads
-use Rattle.asking.proofs.token.token_in.Reads as token-in-reads
+use Rattle.tables.proofs.token.token_in.Reads as token-in-reads
 use Rattle.asking.proofs.walk.two.Reads as two-reads
 use Rattle.asking.proofs.walk.under.Reads as under-reads
 use Rattle.tokens.proofs.is_token.Reads as is-token-reads
@@ -29,25 +29,25 @@ use Rattle.tokens.proofs.width.Reads as width-reads
 use Rattle.asking.proofs.walk.+walk_args+walk_expr.{statement}
 use Rattle.asking.proofs.walk.+walk_args+walk_expr.Tie.{close}
 
-abbrev μ-walk-args : Measures 8 walk-args-kinds.ps ℕ
-μ-walk-args κs a = a .1 .1 .1 .1 .1 .1 .1 .1 .1 .1 .0 * 2 + 1
+abbrev μ-walk-args : Measures 9 walk-args-kinds.ps ℕ
+μ-walk-args κs a = a .1 .1 .1 .1 .1 .1 .1 .1 .1 .1 .1 .0 * 2 + 1
 
-abbrev μ-walk-expr : Measures 8 walk-expr-kinds.ps ℕ
-μ-walk-expr κs a = a .1 .1 .1 .1 .1 .1 .1 .1 .1 .0 * 2
+abbrev μ-walk-expr : Measures 9 walk-expr-kinds.ps ℕ
+μ-walk-expr κs a = a .1 .1 .1 .1 .1 .1 .1 .1 .1 .1 .0 * 2
 
-abbrev walk-args-at : ℕ → In 8 walk-args-kinds.ps
-walk-args-at t = and 8 walk-args-kinds.ps (is 8 walk-args-kinds.ps μ-walk-args t) walk-args.Pre
+abbrev walk-args-at : ℕ → In 9 walk-args-kinds.ps
+walk-args-at t = and 9 walk-args-kinds.ps (is 9 walk-args-kinds.ps μ-walk-args t) walk-args.Pre
 
-abbrev walk-args-below : ℕ → In 8 walk-args-kinds.ps
+abbrev walk-args-below : ℕ → In 9 walk-args-kinds.ps
 walk-args-below t =
-    and 8 walk-args-kinds.ps (falls 8 walk-args-kinds.ps _<_ μ-walk-args t) walk-args.Pre
+    and 9 walk-args-kinds.ps (falls 9 walk-args-kinds.ps _<_ μ-walk-args t) walk-args.Pre
 
-abbrev walk-expr-at : ℕ → In 8 walk-expr-kinds.ps
-walk-expr-at t = and 8 walk-expr-kinds.ps (is 8 walk-expr-kinds.ps μ-walk-expr t) walk-expr.Pre
+abbrev walk-expr-at : ℕ → In 9 walk-expr-kinds.ps
+walk-expr-at t = and 9 walk-expr-kinds.ps (is 9 walk-expr-kinds.ps μ-walk-expr t) walk-expr.Pre
 
-abbrev walk-expr-below : ℕ → In 8 walk-expr-kinds.ps
+abbrev walk-expr-below : ℕ → In 9 walk-expr-kinds.ps
 walk-expr-below t =
-    and 8 walk-expr-kinds.ps (falls 8 walk-expr-kinds.ps _<_ μ-walk-expr t) walk-expr.Pre
+    and 9 walk-expr-kinds.ps (falls 9 walk-expr-kinds.ps _<_ μ-walk-expr t) walk-expr.Pre
 
 abbrev walk-args-calls : ℕ → walk-args-lts.Claims
 walk-args-calls t = (no-args-reads.Asked, no-args-reads.Learnt, under-reads.Asked, under-reads.Learnt, walk-expr-below t, walk-expr.Post, one-reads.Asked, one-reads.Learnt, two-reads.Asked, two-reads.Learnt, three-reads.Asked, three-reads.Learnt)
@@ -80,7 +80,7 @@ walk-args-under-requires-2 : (t : ℕ) → walk-args-lts.Need-under-requires-2 (
 walk-args-under-requires-2 t c κs = search needs
 
 walk-args-walk-expr-requires-2 : (t : ℕ) → walk-args-lts.Need-walk-expr-requires-2 (walk-args-calls t) (walk-args-at t) walk-args.Post
-walk-args-walk-expr-requires-2 t c κs = (search needs, (c .before .before .before .before .before .before .before .before .before .before .before .before .before .before .pre .1 .0, roomy-under _ _ (c .before .before .before .before .before .before .before .before .before .before .before .before .before .before .args .k - 1) _ _ (c .under2 .ensures) (c .before .before .before .before .before .before .before .before .before .before .before .before .before .before .pre .1 .1) (c .before .before .before .before .before .before .before .before .before .before .before .before .before .before .pre .1 .2)))
+walk-args-walk-expr-requires-2 t c κs = (search needs, (c .before .before .before .before .before .before .before .before .before .before .before .before .before .before .before .pre .1 .0, roomy-under _ _ (c .before .before .before .before .before .before .before .before .before .before .before .before .before .before .before .args .k - 1) _ _ (c .under2 .ensures) (c .before .before .before .before .before .before .before .before .before .before .before .before .before .before .before .pre .1 .1) (c .before .before .before .before .before .before .before .before .before .before .before .before .before .before .before .pre .1 .2)))
 
 walk-args-two-requires : (t : ℕ) → walk-args-lts.Need-two-requires (walk-args-calls t) (walk-args-at t) walk-args.Post
 walk-args-two-requires t c κs = search needs
@@ -89,19 +89,19 @@ walk-args-returns-3 : (t : ℕ) → walk-args-lts.Need-returns-3 (walk-args-call
 walk-args-returns-3 t c = search args-two
 
 walk-args-walk-expr-requires-3 : (t : ℕ) → walk-args-lts.Need-walk-expr-requires-3 (walk-args-calls t) (walk-args-at t) walk-args.Post
-walk-args-walk-expr-requires-3 t c κs = (omega (arith, c .before .before .before .before .before .before .before .before .before .before .before .before .before .before .before .before .before .pre .0), (c .before .before .before .before .before .before .before .before .before .before .before .before .before .before .before .before .before .pre .1 .0, c .before .before .before .before .before .before .before .before .before .before .before .before .before .before .before .before .before .pre .1 .2))
+walk-args-walk-expr-requires-3 t c κs = (omega (arith, c .before .before .before .before .before .before .before .before .before .before .before .before .before .before .before .before .before .before .pre .0), (c .before .before .before .before .before .before .before .before .before .before .before .before .before .before .before .before .before .before .pre .1 .0, c .before .before .before .before .before .before .before .before .before .before .before .before .before .before .before .before .before .before .pre .1 .2))
 
 walk-args-three-requires : (t : ℕ) → walk-args-lts.Need-three-requires (walk-args-calls t) (walk-args-at t) walk-args.Post
 walk-args-three-requires t c κs = search needs
 
 walk-args-returns-4 : (t : ℕ) → walk-args-lts.Need-returns-4 (walk-args-calls t) (walk-args-at t) walk-args.Post
-walk-args-returns-4 t c = args-three _ _ _ _ _ _ _ _ _ _ _ _ _ (c .before .before .before .before .before .before .before .before .before .before .before .if1 .left) _ (c .before .before .before .before .before .before .before .before .before .before .under .ensures) _ (c .before .before .before .before .before .before .before .before .before .walk-expr .ensures) (c .before .before .before .before .before .before .before .before .if2 .taken) (c .before .before .before .before .before .before .before .if3 .left) _ (c .before .before .before .before .before .before .under2 .ensures) _ (c .before .before .before .before .before .walk-expr2 .ensures) (c .before .before .before .before .if4 .taken) (c .before .before .before .if5 .left) (c .before .before .before .before .before .before .before .before .before .before .before .before .before .before .before .before .before .before .before .before .pre .1 .3) _ (c .before .before .walk-expr3 .ensures) (c .before .if6 .taken) (c .three .ensures)
+walk-args-returns-4 t c = args-three _ _ _ _ _ _ _ _ _ _ _ _ _ (c .before .before .before .before .before .before .before .before .before .before .before .if1 .left) _ (c .before .before .before .before .before .before .before .before .before .before .under .ensures) _ (c .before .before .before .before .before .before .before .before .before .walk-expr .ensures) (c .before .before .before .before .before .before .before .before .if2 .taken) (c .before .before .before .before .before .before .before .if3 .left) _ (c .before .before .before .before .before .before .under2 .ensures) _ (c .before .before .before .before .before .walk-expr2 .ensures) (c .before .before .before .before .if4 .taken) (c .before .before .before .if5 .left) (c .before .before .before .before .before .before .before .before .before .before .before .before .before .before .before .before .before .before .before .before .before .pre .1 .3) _ (c .before .before .walk-expr3 .ensures) (c .before .if6 .taken) (c .three .ensures)
 
 walk-args-no-args-requires-2 : (t : ℕ) → walk-args-lts.Need-no-args-requires-2 (walk-args-calls t) (walk-args-at t) walk-args.Post
 walk-args-no-args-requires-2 t c κs = search needs
 
 walk-args-returns-5 : (t : ℕ) → walk-args-lts.Need-returns-5 (walk-args-calls t) (walk-args-at t) walk-args.Post
-walk-args-returns-5 t c = args-third-lost _ _ _ _ _ _ _ _ _ _ _ _ _ (c .before .before .before .before .before .before .before .before .before .before .before .if1 .left) _ (c .before .before .before .before .before .before .before .before .before .before .under .ensures) _ (c .before .before .before .before .before .before .before .before .before .walk-expr .ensures) (c .before .before .before .before .before .before .before .before .if2 .taken) (c .before .before .before .before .before .before .before .if3 .left) _ (c .before .before .before .before .before .before .under2 .ensures) _ (c .before .before .before .before .before .walk-expr2 .ensures) (c .before .before .before .before .if4 .taken) (c .before .before .before .if5 .left) (c .before .before .before .before .before .before .before .before .before .before .before .before .before .before .before .before .before .before .before .before .pre .1 .3) _ (c .before .before .walk-expr3 .ensures) (c .before .if6 .left) _ (c .no-args2 .ensures)
+walk-args-returns-5 t c = args-third-lost _ _ _ _ _ _ _ _ _ _ _ _ _ (c .before .before .before .before .before .before .before .before .before .before .before .if1 .left) _ (c .before .before .before .before .before .before .before .before .before .before .under .ensures) _ (c .before .before .before .before .before .before .before .before .before .walk-expr .ensures) (c .before .before .before .before .before .before .before .before .if2 .taken) (c .before .before .before .before .before .before .before .if3 .left) _ (c .before .before .before .before .before .before .under2 .ensures) _ (c .before .before .before .before .before .walk-expr2 .ensures) (c .before .before .before .before .if4 .taken) (c .before .before .before .if5 .left) (c .before .before .before .before .before .before .before .before .before .before .before .before .before .before .before .before .before .before .before .before .before .pre .1 .3) _ (c .before .before .walk-expr3 .ensures) (c .before .if6 .left) _ (c .no-args2 .ensures)
 
 walk-args-no-args-requires-3 : (t : ℕ) → walk-args-lts.Need-no-args-requires-3 (walk-args-calls t) (walk-args-at t) walk-args.Post
 walk-args-no-args-requires-3 t c κs = search needs
@@ -155,7 +155,7 @@ walk-expr-walk-args-requires : (t : ℕ) → walk-expr-lts.Need-walk-args-requir
 walk-expr-walk-args-requires t c κs = search (needs, roomy-below, roomy-last)
 
 walk-expr-over-args-requires : (t : ℕ) → walk-expr-lts.Need-over-args-requires (walk-expr-calls t) (walk-expr-at t) walk-expr.Post
-walk-expr-over-args-requires t c κs = (c .before .before .before .before .before .arguments-in .ensures, search needs, c .before .walk-args .ensures .low, c .before .before .before .before .before .before .before .before .before .before .before .before .before .before .before .before .before .before .pre .1 .0)
+walk-expr-over-args-requires t c κs = (c .before .before .before .before .before .arguments-in .ensures, search needs, c .before .walk-args .ensures .low, c .before .before .before .before .before .before .before .before .before .before .before .before .before .before .before .before .before .before .before .pre .1 .0)
 
 walk-expr-returns-3 : (t : ℕ) → walk-expr-lts.Need-returns-3 (walk-expr-calls t) (walk-expr-at t) walk-expr.Post
 walk-expr-returns-3 t c = judged-token _ _ _ _ _ _ _ _ _ _ _ _ _ (c .before .before .before .before .before .before .before .before .before .token-in .ensures) (c .before .before .before .before .before .before .before .before .is-token .ensures) (c .before .before .before .before .before .before .before .if2 .taken) (c .before .before .before .before .before .before .before .before .before .before .if1 .left) _ (c .before .before .before .before .before .before .arguments-in .ensures) _ (c .before .before .before .before .width .ensures) _ (c .before .before .before .inside .ensures) _ (c .before .before .walk-args .ensures) (search needs) (c .before .if4 .taken) (c .over-args .ensures)

@@ -1,5 +1,5 @@
 -- `walk::judge`: the codes of the module, by place.
-use Rattle.asking.proofs.Naming.{in-module}
+use Rattle.asking.proofs.Serving.{in-module}
 use borrow.Author.Needs.{needs}
 use Rattle.asking.proofs.walk.judge.Statement.{statement}
 use Rattle.asking.proofs.walk.judge.Tie as tie

@@ -1,0 +1,2 @@
+pub mod Skimming
+pub mod Reading

@@ -1,0 +1,38 @@
+-- `names::find`: by the table, or by a search.
+use Rattle.tables.proofs.Naming.{by-table}
+use borrow.Author.Needs.{needs}
+use Rattle.tables.proofs.names.find.Statement.{statement}
+use Rattle.tables.proofs.names.find.Tie as tie
+
+mul-i : tie.Need-mul-i
+mul-i c = search needs
+
+add-if1 : tie.Need-add-if1
+add-if1 c = search needs
+
+number-at-requires : tie.Need-number-at-requires
+number-at-requires c κs = search needs
+
+code-at-requires : tie.Need-code-at-requires
+code-at-requires c κs = search needs
+
+returns : tie.Need-returns
+returns c = search (by-table, needs)
+
+find-code-requires : tie.Need-find-code-requires
+find-code-requires c κs = search needs
+
+returns-2 : tie.Need-returns-2
+returns-2 c = search needs
+
+pub find-spec : {M : Type 1} → statement M
+find-spec =
+    tie.close
+    (tie.spec
+    mul-i
+    add-if1
+    number-at-requires
+    code-at-requires
+    returns
+    find-code-requires
+    returns-2)

@@ -1,0 +1,13 @@
+// What makes a long walk quick: the columns of the built-in codes in one lent table, tokens read by it, and names found in tables by name. A
+// table of no entries serves too, and costs nothing where the walk is short.
+pub mod brought;
+pub mod columns;
+pub mod names;
+pub mod token;
+
+pub struct Long;
+
+impl Long {
+    // From so many bytes of an expression on the tables are worth filling.
+    pub const BYTES: usize = 4096;
+}
