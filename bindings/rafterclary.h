@@ -4,7 +4,7 @@
  * is 0. Lent memory must not overlap what is only read, nor other lent memory. It is written only
  * as paper 01 says: the card memory, and of that the first 32,000 bytes at most, and the output of
  * an expansion, and of that its length. The tables of a call are on the native stack: 435 KB, of
- * a level query 568 KB, of an expansion 970 KB, and some tens of KB more for the calls themselves.
+ * a level query 699 KB, of an expansion 970 KB, and some tens of KB more for the calls themselves.
  *
  * Every call checks the file afresh and fills the card memory, as a check does: an accepted
  * file's cards are there after a query too, whether it is answered or refused.

@@ -8,10 +8,10 @@ stripped-length-requires : tie.Need-stripped-length-requires
 stripped-length-requires c κs = search needs
 
 returns : tie.Need-returns
-returns c = search (needs, out-long)
+returns c = search (needs, out-long, out-short)
 
 returns-2 : tie.Need-returns-2
-returns-2 c = search (needs, out-short)
+returns-2 c = search (needs, out-long, out-short)
 
 put-strip-requires : tie.Need-put-strip-requires
 put-strip-requires c κs = search needs
