@@ -1,29 +1,63 @@
-//! The stored vectors of the gate are those that `vectors` writes.
+//! The stored vectors of the gate are those that `vectors` writes, and the listing program is the one
+//! that they are run with.
 
 use std::fs;
 use std::path::Path;
 use std::process::Command;
 
+/// What `vectors KIND OF FOLDER` writes has to be what the program has.
+fn compare(kind: &str, of: &str, program: &str, files: &[&str]) {
+    let crates = Path::new(env!("CARGO_MANIFEST_DIR")).join("../crates");
+    let folder = Path::new(env!("CARGO_TARGET_TMPDIR")).join(program);
+    fs::create_dir_all(&folder).expect("a folder");
+    let mut vectors = Command::new(env!("CARGO_BIN_EXE_vectors"));
+    vectors.arg(kind).arg(of).arg(&folder);
+    assert!(vectors.status().expect("it runs").success(), "{program}");
+    for name in files {
+        let stored = fs::read(crates.join(program).join(name));
+        let written = fs::read(folder.join(name));
+        assert!(
+            stored.expect("stored") == written.expect("written"),
+            "{program}/{name}"
+        );
+    }
+}
+
 #[test]
 fn vectors_are_up_to_date() {
-    let root = Path::new(env!("CARGO_MANIFEST_DIR")).join("..");
+    let samples = concat!(env!("CARGO_MANIFEST_DIR"), "/../samples");
     for (kind, program) in [
         ("listings", "vectors"),
         ("checks", "checks"),
         ("queries", "asks"),
     ] {
-        let folder = Path::new(env!("CARGO_TARGET_TMPDIR")).join(kind);
-        fs::create_dir_all(&folder).expect("a folder");
-        let mut vectors = Command::new(env!("CARGO_BIN_EXE_vectors"));
-        vectors.arg(kind).arg(root.join("samples")).arg(&folder);
-        assert!(vectors.status().expect("it runs").success(), "{kind}");
-        for name in ["stdin", "stdout", "index"] {
-            let stored = fs::read(root.join("crates").join(program).join(name));
-            let written = fs::read(folder.join(name));
-            assert!(
-                stored.expect("stored") == written.expect("written"),
-                "{program}/{name}"
-            );
-        }
+        compare(kind, samples, program, &["stdin", "stdout", "index"]);
+    }
+}
+
+const INPUTS: [&str; 4] = ["full", "long", "refused", "nothing"];
+
+#[test]
+fn inputs_are_up_to_date() {
+    for input in INPUTS {
+        let program = format!("listing_{input}");
+        compare("input", input, &program, &["stdin", "stdout"]);
+    }
+}
+
+/// A program of the gate is run once, so the listing program stands there five times: nothing but the
+/// comment in the first line may differ.
+#[test]
+fn one_listing_program() {
+    let crates = Path::new(env!("CARGO_MANIFEST_DIR")).join("../crates");
+    let program = |name: &str| {
+        let text = fs::read_to_string(crates.join(name).join("src/main.rt")).expect("a program");
+        let (comment, code) = text.split_once('\n').expect("more than a line");
+        assert!(comment.starts_with("//"), "{name}");
+        code.to_string()
+    };
+    for input in INPUTS {
+        let name = format!("listing_{input}");
+        assert!(program(&name) == program("listing"), "{name}");
     }
 }

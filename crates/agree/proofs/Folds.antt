@@ -1,4 +1,4 @@
--- A fold over a tree by position is a fold over the rules' expression: "the last argument is the one in scope" is the same as the table's
+-- A fold over a tree by position is a fold over the rules' expression: that the last argument is the one in scope is the same as the table's
 -- binders, argument by argument, because a row binds a variable only in its last argument.
 -- Assumes nothing.
 use mathlib.Core.Path.{_≡_, refl, sym, ap, ap₂, _∙_, subst}

@@ -6,7 +6,6 @@ pub mod Substitutions
 pub mod Payloads
 pub mod Fields
 pub mod Runs
-pub mod Layouts
 pub mod Folds
 pub mod Walks
 pub mod Somewhere

@@ -1,17 +1,14 @@
--- What the parts of a field, by position, tell of the field that the rules read; and a layout of the fields that they read. Definitions only.
+-- What the parts of a field, by position, tell of the field that the rules read. Definitions only.
 use mathlib.Core.Path.{_≡_}
-use mathlib.Core.List.{List, [], _∷_, _++_}
+use mathlib.Core.List.{List, [], _∷_}
 use mathlib.Core.Option.{some}
 use Prim.Native.Nat.{ℕ, zero, suc, _+_, _-_, _≤_, _<_}
 use lib.ListN.{length, drop}
-use Rattle.theory.specs.Lists.{All}
-use Rattle.rules.specs.Bytes.{cut, got, writeAll}
+use Rattle.rules.specs.Bytes.{cut, got}
 use Rattle.rules.specs.Expression.{Expression, expression}
-use Rattle.rules.specs.Field.{Field, begin-module, extends, declare-constant, declare-variable, definition, instance, end-module, assume, theorem, Substitution, writeField, field, FieldFits}
+use Rattle.rules.specs.Field.{Field, begin-module, extends, declare-constant, declare-variable, definition, instance, end-module, assume, theorem, Substitution, writeField, field}
 use Rattle.tokens.specs.Token.{numberAt}
 use Rattle.fields.specs.Substitution.{part, substitutionAt, nextSubstitution}
-use Rattle.fields.specs.declared.Layout.{Layout}
-use Rattle.fields.specs.declared.Layout.the-variants.{Sound, CutAt}
 use Rattle.fields.specs.declared.Parts.{Parts}
 use Rattle.fields.specs.declared.Parts.the-variants.{Module, Extends, Constant, Variable, Definition, Instance, EndModule, Assume, Theorem, Cut, EndOfFile}
 
@@ -62,9 +59,3 @@ Reads s at next (Assume p l) = IsField s at next (Assume p l)
 Reads s at next (Theorem p l) = IsField s at next (Theorem p l)
 Reads s at next Cut = (at < length s) × (field .read (drop at s) ≡ cut)
 Reads s at next EndOfFile = (length s ≤ at) × (drop at s ≡ [])
-
--- A layout of bytes, fields counted from n: a row of fields; or a row of fields and then bytes of which the rules read no field.
-abbrev pub LaidOut : List ℕ → ℕ → Layout → Type 0
-LaidOut bytes n (Sound k) = (fs : List Field) × All FieldFits fs × (writeAll field fs ≡ bytes) × (n + length fs ≡ k)
-LaidOut bytes n (CutAt k) =
-    (fs : List Field) × (rest : List ℕ) × All FieldFits fs × (writeAll field fs ++ rest ≡ bytes) × (n + length fs ≡ k) × (field .read rest ≡ cut) × (1 ≤ length rest)

@@ -1,6 +1,6 @@
 -- The level of one token at the levels of its arguments: one lemma for each way through the code.
 use borrow.Author.Tests.{eqb-false, eqb-true, lt-leb, lt-ltb, ltb-false, ltb-true, ne-eqb}
-use mathlib.Core.Bool.{Bool, and-true, cond, false, not, true, _||_}
+use mathlib.Core.Bool.{Bool, and-true, cond, false, true, _||_}
 use mathlib.Core.List.{List, [], _∷_}
 use mathlib.Core.Path.{_∙_, _≡_, ap, ap₂, refl, subst, sym}
 use Prim.Native.Nat.{ℕ, zero, suc, _+_, _-_, _/_, _%_, _^_, _<_, _≤_, max, min}
@@ -9,9 +9,8 @@ use native.Mathlib.Omega.{arith}
 use lib.Dec.{eqb, leb, ltb}
 use lib.ListN.{List·getD-eq-default, getD, length, replicate, take}
 use Rattle.limits.specs.Limits.{maxArity, maxDefinitions}
-use Rattle.theory.specs.Level.{builtinLevel, highest, row}
+use Rattle.theory.specs.Level.{IsLevel, builtinLevel, highest, row}
 use Rattle.theory.specs.Lists.{All}
-use Rattle.theory.proofs.Levels.{IsLevel}
 use Rattle.rows.specs.Rows.{arityOf, maskBitsOf, resultOf}
 use Rattle.tokens.specs.Token.{argumentsOf}
 use Rattle.tokens.proofs.Places.{never}
@@ -33,7 +32,6 @@ use Rattle.levels.proofs.Single.{bit-past}
 use Rattle.resolve.specs.Look.{lookIn}
 use Rattle.resolve.specs.Walk.{isNoRef, miscountedAt, miscountedIn, numberIn, numberOf, unknownAt, unknownIn, wrongCount}
 use Rattle.resolve.specs.declared.Look.{Look}
-use Rattle.resolve.specs.declared.Look.the-variants.{Ref}
 use Rattle.standing.specs.Standing.{itselves}
 use Rattle.asking.specs.Walk.{Headed, LevelOf, Low, PlainAnswered, answered, argumentLevels, rowTakes, zeroLevels}
 use Rattle.asking.specs.declared.Args.{Args}
@@ -334,10 +332,6 @@ module _ (v : List ℕ) (p : ℕ) (e : Scope) (t : Token) (a : Args) (r : Walked
 
   pub not-instance : (i n k : ℕ) → t ≡ InstanceOperator i n k → isName t ≡ false → PlainAnswered v p e t a r
   not-instance i n k et h = never (sym h ∙ ap isName et)
-
--- what a name means
-pub count-ref : (l : Look) (k n c : ℕ) → l ≡ Ref n c → not (eqb k c) ≡ wrongCount k l
-count-ref l k n c e = rw e refl
 
 pub plain-headed : (names facts cs words v : List ℕ) (p : ℕ) (e : Scope) (t : Token) (a : Args) (r : Walked) → PlainAnswered v p e t a r
     → Headed names facts cs words v p e t a r

@@ -14,7 +14,7 @@ use Rattle.theory.specs.Expand.{aritiesOf}
 use Rattle.theory.specs.Lists.{All, bindOption, mapOption}
 use Rattle.theory.specs.Term.{Head, WellFormed, declared, defined, variable}
 use Rattle.theory.specs.Tree.{node, ⟨⟩, _▹_}
-use Rattle.theory.proofs.Levels.{IsLevel}
+use Rattle.theory.specs.Level.{IsLevel}
 use Rattle.theory.proofs.Lists.{find-has, or-false}
 use Rattle.rules.specs.Expression.{Expression, TokenFits, expression, nesting, overCount, overLimit, somewhere}
 use Rattle.rules.specs.Field.{Field}

@@ -11,7 +11,7 @@ use lib.ListN.{List·getD-append, getD, getElem?, length}
 use Rattle.limits.specs.Limits.{levelCount, maxArity, maxNesting}
 use Rattle.theory.specs.Lists.{All, any, isSome}
 use Rattle.theory.specs.Term.{Term}
-use Rattle.theory.proofs.Levels.{IsLevel}
+use Rattle.theory.specs.Level.{IsLevel}
 use Rattle.theory.proofs.Lists.{any-false, map-all, never}
 use Rattle.rules.specs.Expression.{Expression, expression, overArity, overLimit}
 use Rattle.rules.specs.Field.{Field}

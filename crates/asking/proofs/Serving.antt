@@ -4,7 +4,7 @@ use mathlib.Core.Path.{_∙_, _≡_, ap, subst}
 use Prim.Native.Nat.{ℕ, _+_, _-_, _*_, _^_, _<_, _≤_}
 use native.Mathlib.Omega.{arith}
 use lib.ListN.{getD, length}
-use Rattle.limits.specs.Limits.{contextLength, placeCount}
+use Rattle.limits.specs.Sizes.{contextLength, placeCount}
 use Rattle.forms.specs.Forms.{width}
 use Rattle.context.specs.Parts.{part}
 use Rattle.context.specs.Store.{contextCodes}

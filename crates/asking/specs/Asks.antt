@@ -10,7 +10,7 @@ use Rattle.theory.specs.Lists.{any}
 use Rattle.rules.specs.Expression.{expression}
 use Rattle.rules.specs.Field.{Field}
 use Rattle.rules.specs.Query.{levelReply, readIn}
-use Rattle.rules.specs.Run.{Outcome, andThen, refusal, result}
+use Rattle.rules.specs.Run.{andThen, result}
 use Rattle.rules.specs.State.{State, levelOf}
 use Rattle.tokens.specs.Expr.{Found, wholeOf}
 use Rattle.context.specs.Holds.{moduleNo}
@@ -20,6 +20,7 @@ use Rattle.resolve.specs.Walk.{Looks}
 use Rattle.worlds.specs.Rows.{Row}
 use Rattle.judge_plain.specs.declared.Phase.{Phase}
 use Rattle.standing.specs.Standing.{Standing}
+use Rattle.asking.specs.Reply.{outcomeOf}
 use Rattle.asking.specs.declared.Walked.{Walked}
 use Rattle.asking.specs.declared.Asked.{Asked}
 use Rattle.asking.specs.declared.Asked.the-variants.{Level, Refused}
@@ -53,11 +54,6 @@ keptReply w fields = cond (w .unknown) (Refused 9 fields) (cond (w .miscounted) 
 unfoldable pub replyOf : List ℕ → Walked → ℕ → Asked
 replyOf expr w fields =
     cond (w .kept) (cond (eqb (w .next) (length expr)) (keptReply w fields) (Refused 3 fields)) (Refused (limitCause expr) fields)
-
--- an answer as the rules give it
-abbrev pub outcomeOf : Asked → Outcome ℕ
-outcomeOf (Level l) = result l
-outcomeOf (Refused c p) = refusal c p
 
 -- The reply in module m is the rules', if the arrays show a state in which it is ended, and that many fields are read.
 pub record AsksIn (names facts contexts heads words : List ℕ) (m fields : ℕ) (levels expr : List ℕ) (r : Asked) : Type 0 where

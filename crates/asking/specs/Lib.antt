@@ -1,2 +1,3 @@
+pub mod Reply
 pub mod Asks
 pub mod Walk

@@ -72,7 +72,7 @@ fn is_taken(mask: u8, l: u8) -> bool
 }
 
 // The highest level of the first k arguments, at most three.
-fn highest(k: u8, a: Args) -> u8
+fn highest_of(k: u8, a: Args) -> u8
     requires { ⌜ (k ≤ maxArity) × Low a ⌝ }
     ensures { λ r. ⌜ LevelOf r (highest (take k (argumentLevels a))) ⌝ }
 {
@@ -110,7 +110,7 @@ pub fn row_level(columns: &[u8], code: u8, k: u8, a: Args) -> u8
 {
     let result = columns::result(columns, code);
     if result == rows::Rows::HIGHEST {
-        return highest(k, a);
+        return highest_of(k, a);
     }
     if all_taken(columns, code, k, a) {
         capped(result)

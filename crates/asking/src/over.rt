@@ -9,7 +9,6 @@ ghost use Rattle.tokens.specs.Token.{argumentsOf};
 ghost use Rattle.texts.specs.Noted.{isName};
 ghost use Rattle.forms.specs.Forms.{width};
 ghost use Rattle.context.specs.Parts.{part};
-ghost use Rattle.resolve.specs.Walk.{isNoRef, numberOf, wrongCount};
 ghost use Rattle.tables.specs.Columns.{Columned};
 ghost use Rattle.asking.specs.Walk.{Headed, Low, PlainAnswered, Ready, answered};
 use crate::Args;
@@ -19,7 +18,10 @@ use crate::heads::bit_of;
 use crate::heads::name_level;
 use crate::heads::parameter_level;
 use crate::heads::row_level;
-use resolve::Look;
+use resolve::steps::is_name;
+use resolve::steps::is_no_ref;
+use resolve::steps::number_of;
+use resolve::steps::wrong_count;
 use skimming::Place;
 use tables::names::look;
 use tokens::Token;
@@ -46,48 +48,6 @@ fn answer(level: u8, unknown: bool, miscounted: bool, a: Args) -> Walked
         next: a.next,
         level,
         miscounted: either(miscounted, a.miscounted),
-    }
-}
-
-fn number_of(l: Look) -> u16
-    ensures { λ r. ⌜ r ≡ numberOf l ⌝ }
-{
-    match l {
-        Look::Ref(number, _) => number,
-        Look::NoRef => 0,
-    }
-}
-
-fn is_no_ref(l: Look) -> bool
-    ensures { λ r. ⌜ r ≡ isNoRef l ⌝ }
-{
-    match l {
-        Look::Ref(_, _) => false,
-        Look::NoRef => true,
-    }
-}
-
-// Cause 10 at a name with k arguments written.
-fn wrong_count(k: u8, l: Look) -> bool
-    ensures { λ r. ⌜ r ≡ wrongCount k l ⌝ }
-{
-    match l {
-        Look::Ref(_, count) => (k as u16) != count,
-        Look::NoRef => false,
-    }
-}
-
-fn is_name(t: Token) -> bool
-    ensures { λ r. ⌜ r ≡ isName t ⌝ }
-{
-    match t {
-        Token::Parameter(_) => false,
-        Token::Bound(_) => false,
-        Token::Name(_, _) => true,
-        Token::InstanceOperator(_, _, _) => true,
-        Token::BuiltIn(_) => false,
-        Token::Literal(_) => false,
-        Token::NoToken => false,
     }
 }
 

@@ -1,18 +1,23 @@
-// Asks many questions of many files: standard input holds records one after another, each the number of bytes of card memory to lend, a
-// file, the kind of question, two numbers, levels, an expression and the number of bytes of output to lend; the file, the levels and the
-// expression each after its length. All numbers are of three bytes, most significant first. For each it prints the reply and a checksum of the
-// whole card memory, lent or not; of an expansion also one of the whole output. Ends where the input does, or at a number that is more than
-// there is room for.
+// Asks many questions of many files by the archive's own functions, reading their replies off the numbers as a caller in C does: standard
+// input holds records one after another, each the number of bytes of card memory to lend, a file, the kind of question, two numbers, levels, an
+// expression and the number of bytes of output to lend; the file, the levels and the expression each after its length. All numbers are of three
+// bytes, most significant first. For each it prints the reply and a checksum of the whole card memory, lent or not; of an expansion also one of
+// the whole output. Ends where the input does, or at a number that is more than there is room for.
 ghost use Prim.Native.Nat.{_≤_, _<_};
 ghost use lib.ListN.{length};
-use asking::Asked;
-use expanding::Expanded;
 use libc::STDIN_FILENO;
 use libc::STDOUT_FILENO;
 use list_file::Input;
-use queries::AlikeReply;
-use queries::BodyReply;
-use queries::expansion;
+use rafterclary::rafterclary_alike;
+use rafterclary::rafterclary_body;
+use rafterclary::rafterclary_expand;
+use rafterclary::rafterclary_level;
+use unpacking::Number;
+use unpacking::Span;
+use unpacking::Truth;
+use unpacking::unpack;
+use unpacking::unpack_span;
+use unpacking::unpack_truth;
 
 struct Room;
 
@@ -87,39 +92,32 @@ fn print_number(word: &[u8], x: u64) {
     io::write_all(STDOUT_FILENO, b" ");
 }
 
-fn print_refusal(c: u8, p: usize) {
-    print_number(b"refused ", c as u64);
-    print_number(b"", p as u64)
+fn print_refusal(c: u64, p: u64) {
+    print_number(b"refused ", c);
+    print_number(b"", p)
 }
 
-fn print_level(reply: Asked) {
+fn print_reply(reply: Number) {
     match reply {
-        Asked::Level(l) => print_number(b"ok ", l as u64),
-        Asked::Refused(c, p) => print_refusal(c, p),
+        Number::Result(n) => print_number(b"ok ", n as u64),
+        Number::Refused(c, p) => print_refusal(c as u64, p as u64),
     }
 }
 
-fn print_alike(reply: AlikeReply) {
+fn print_truth(reply: Truth) {
     match reply {
-        AlikeReply::Alike(b) => print_number(b"ok ", if b { 1 } else { 0 }),
-        AlikeReply::Refused(c, p) => print_refusal(c, p),
+        Truth::Result(b) => print_number(b"ok ", if b { 1 } else { 0 }),
+        Truth::Refused(c, p) => print_refusal(c as u64, p as u64),
     }
 }
 
-fn print_body(reply: BodyReply) {
+fn print_span(reply: Span) {
     match reply {
-        BodyReply::Body(start, size) => {
-            print_number(b"ok ", start as u64);
-            print_number(b"", size as u64)
+        Span::Result(start, size) => {
+            print_number(b"ok ", start);
+            print_number(b"", size)
         }
-        BodyReply::Refused(c, p) => print_refusal(c, p),
-    }
-}
-
-fn print_expanded(reply: Expanded) {
-    match reply {
-        Expanded::Length(size) => print_number(b"ok ", size as u64),
-        Expanded::Refused(c, p) => print_refusal(c, p),
+        Span::Refused(c, p) => print_refusal(c, p),
     }
 }
 
@@ -137,16 +135,16 @@ fn ask(
 {
     match kind {
         1 => {
-            let reply = queries::level(file, cards, (first % 65536) as u16, expr, levels);
-            print_level(reply)
+            let reply = rafterclary_level(file, cards, (first % 65536) as u16, expr, levels);
+            print_reply(unpack(reply))
         }
         2 => {
-            let reply = queries::alike(file, cards, first as u32, second as u32);
-            print_alike(reply)
+            let reply = rafterclary_alike(file, cards, first as u32, second as u32);
+            print_truth(unpack_truth(reply))
         }
         _ => {
-            let reply = queries::body(file, cards, first as u32);
-            print_body(reply)
+            let reply = rafterclary_body(file, cards, first as u32);
+            print_span(unpack_span(reply))
         }
     }
 }
@@ -185,7 +183,7 @@ fn expand_in(
 {
     mark(memory);
     mark(out);
-    let reply = expansion::expand(
+    let reply = rafterclary_expand(
         file,
         &mut memory[..lent],
         (name % 65536) as u16,
@@ -193,7 +191,7 @@ fn expand_in(
         (params % 256) as u8,
         &mut out[..room],
     );
-    print_expanded(reply);
+    print_reply(unpack(reply));
     print_number(b"", checksum(memory) as u64);
     io::print_decimal(STDOUT_FILENO, checksum(out) as u64);
     io::write_all(STDOUT_FILENO, b"\n")

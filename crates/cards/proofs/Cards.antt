@@ -9,7 +9,8 @@ use native.Mathlib.Omega.{arith}
 use lib.Dec.{ltb}
 use lib.ListN.{drop, getD, getD-replicate, length, length-append, length-replicate, replicate, set}
 use lib.Seq.{drop-append-add, drop-drop, length-paste, paste, paste-suc, paste-zero, take-all, take-at}
-use Rattle.limits.specs.Limits.{cardBytes, cardMemoryBytes, columnCount, maxArity, maxDefinitions}
+use Rattle.limits.specs.Limits.{cardBytes, cardMemoryBytes, maxArity, maxDefinitions}
+use Rattle.limits.specs.Sizes.{columnCount}
 use Rattle.theory.proofs.Cards.{card-length}
 use Rattle.theory.specs.Card.{cardOf}
 use Rattle.rules.specs.Run.{overwrite}

@@ -2,7 +2,8 @@
 ghost use mathlib.Core.Path.{_≡_};
 ghost use Prim.Native.Nat.{_+_, _*_, _≤_, _<_};
 ghost use lib.ListN.{length, replicate};
-ghost use Rattle.limits.specs.Limits.{cardMemoryBytes, factsLength, maxArity, maxDefinitions};
+ghost use Rattle.limits.specs.Limits.{cardMemoryBytes, maxArity, maxDefinitions};
+ghost use Rattle.limits.specs.Sizes.{factsLength};
 ghost use Rattle.levels.specs.Tables.{tableWords};
 ghost use Rattle.rules.specs.Run.{overwrite};
 ghost use Rattle.cards.specs.Cards.{cardsOf};

@@ -12,8 +12,7 @@ use native.Mathlib.Numerals.{add-one}
 use native.Mathlib.Omega.{arith}
 use Prim.Native.Nat.{_+_, _*_, _<_, _≤_, suc, zero, ℕ}
 use Rattle.limits.specs.Limits.{maxDefinitions}
-use Rattle.theory.proofs.Levels.{IsLevel}
-use Rattle.theory.specs.Level.{verdict}
+use Rattle.theory.specs.Level.{IsLevel, verdict}
 use Rattle.theory.specs.Lists.{All, any, numbersFrom}
 use Rattle.rules.specs.State.{State, cardLevel, paramsOf, zeros}
 use Rattle.texts.specs.Text.{Declarations}

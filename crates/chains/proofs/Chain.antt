@@ -11,7 +11,8 @@ use Prim.Native.Nat.{_+_, _-_, _/_, _%_, _<_, _≤_, suc, zero, ℕ}
 use Rattle.limits.specs.Limits.{maxArity, maxDeclarations, maxDefinitions}
 use Rattle.theory.proofs.Demand3.{card-exact}
 use Rattle.theory.proofs.ExpandFirst.{eval-good}
-use Rattle.theory.proofs.Levels.{IsLevel, levels-kept}
+use Rattle.theory.proofs.Levels.{levels-kept}
+use Rattle.theory.specs.Level.{IsLevel}
 use Rattle.theory.proofs.Lists.{append-all}
 use Rattle.theory.proofs.Summary.{AllFormed}
 use Rattle.theory.specs.Expand.{Definition, aritiesOf, templates}

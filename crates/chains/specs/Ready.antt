@@ -4,7 +4,7 @@ use mathlib.Core.Path.{_≡_}
 use Prim.Native.Nat.{ℕ, _+_, _≤_, _<_}
 use lib.ListN.{getD, length}
 use Rattle.limits.specs.Limits.{maxArity, maxDefinitions, maxModules}
-use Rattle.theory.proofs.Levels.{IsLevel}
+use Rattle.theory.specs.Level.{IsLevel}
 use Rattle.theory.specs.Lists.{All}
 use Rattle.theory.specs.Term.{declaredLevel, kindArity}
 use Rattle.rules.specs.State.{State, cardLevel, paramsOf}

@@ -6,8 +6,7 @@ use mathlib.Core.Path.{_≡_}
 use Prim.Native.Nat.{ℕ, _+_, _≤_, _<_}
 use lib.ListN.{getD, length}
 use Rattle.limits.specs.Limits.{maxDefinitions}
-use Rattle.theory.proofs.Levels.{IsLevel}
-use Rattle.theory.specs.Level.{verdict}
+use Rattle.theory.specs.Level.{IsLevel, verdict}
 use Rattle.theory.specs.Lists.{All, any, numbersFrom}
 use Rattle.rules.specs.State.{State, cardLevel, paramsOf, zeros}
 use Rattle.texts.specs.Text.{Declarations}

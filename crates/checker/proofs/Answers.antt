@@ -7,10 +7,11 @@ use Prim.Native.Nat.{ℕ, _≤_, _<_}
 use native.Mathlib.Omega.{arith}
 use lib.Dec.{ltb}
 use lib.ListN.{length, length-replicate, replicate}
-use Rattle.limits.specs.Limits.{cardMemoryBytes, codeCount, contextsLength, factsLength, fileBytes, headsLength, maxDefinitions, ordersLength}
+use Rattle.limits.specs.Limits.{cardMemoryBytes, fileBytes, maxDefinitions}
+use Rattle.limits.specs.Sizes.{codeCount, contextsLength, factsLength, headsLength, ordersLength}
 use Rattle.theory.proofs.Lists.{or-false}
 use Rattle.rules.specs.Bytes.{isEmpty}
-use Rattle.rules.specs.Run.{Answer, Outcome, afterCheck, andThen, cardsFrom, check, checked, judgeFile, memoryAfter, overwrite, refusal, result}
+use Rattle.rules.specs.Run.{Answer, Outcome, afterCheck, andThen, cardsFrom, fileCheck, checked, judgeFile, memoryAfter, overwrite, refusal, result}
 use Rattle.rules.specs.State.{State}
 use Rattle.laws.proofs.FileRefusals.{short-memory}
 use Rattle.context.proofs.Adds.{empty}
@@ -79,21 +80,21 @@ abbrev countReply : State → Outcome ℕ
 countReply s = result (length (s .definitions))
 
 pub check-answered : (file memory after : List ℕ) (v : Store) (c : Counts) (refs words declared : List ℕ) (r : Reply) → cardMemoryBytes ≤ length memory → isEmpty file ≡ false → length file ≤ fileBytes
-    → Settles file v c refs words declared r → Leaves (v .facts) words r memory after → answerOf r after ≡ check file memory
+    → Settles file v c refs words declared r → Leaves (v .facts) words r memory after → answerOf r after ≡ fileCheck file memory
 check-answered file memory after v c refs words declared (Accepted n) room some fits x y =
     reached-answer countReply file memory after v c refs words declared n (result n) room some fits x y (ap result (sym (x .counted) ∙ x .stands .holds .definitions))
 check-answered file memory after v d refs words declared (Refused c p) room some fits x y = refused-answer countReply file memory after c p room some fits x y
 
 pub check-concluded : (file memory after : List ℕ) (v : Store) (c : Counts) (refs words declared : List ℕ) (r : Reply) → cardMemoryBytes ≤ length memory → isEmpty file ≡ false → length file ≤ fileBytes
-    → Concludes file v c refs words declared r memory after → answerOf r after ≡ check file memory
+    → Concludes file v c refs words declared r memory after → answerOf r after ≡ fileCheck file memory
 check-concluded file memory after v c refs words declared r room some fits x =
     check-answered file memory after v c refs words declared r room some fits (x .settles) (x .leaves)
 
-pub check-short : (file memory : List ℕ) → length memory < cardMemoryBytes → answerOf (Refused 1 0) memory ≡ check file memory
+pub check-short : (file memory : List ℕ) → length memory < cardMemoryBytes → answerOf (Refused 1 0) memory ≡ fileCheck file memory
 check-short file memory l = short-answer countReply file memory l
 
 pub check-wrong-size : (file memory after : List ℕ) → cardMemoryBytes ≤ length memory → wrongSize file ≡ true → after ≡ overwrite (replicate cardMemoryBytes 0) memory
-    → answerOf (Refused 2 0) after ≡ check file memory
+    → answerOf (Refused 2 0) after ≡ fileCheck file memory
 check-wrong-size file memory after room wrong e = wrong-size-answer countReply file memory after room wrong e
 
 -- sizes as the code reads them

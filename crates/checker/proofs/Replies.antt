@@ -3,7 +3,7 @@ use mathlib.Core.Path.{_≡_, ap, sym}
 use Prim.Native.Nat.{ℕ}
 use Rattle.judge_plain.specs.declared.Phase.the-variants.{Begun, Inside, Outside}
 use Rattle.judge_plain.specs.declared.Phase.{Phase}
-use Rattle.checker.specs.Reply.{endReply}
+use Rattle.checker.specs.Turned.{endReply}
 use Rattle.checker.specs.declared.Reply.the-variants.{Accepted, Refused}
 
 pub reply-outside : (p : Phase) (n k : ℕ) → p ≡ Outside → Accepted n ≡ endReply p n k

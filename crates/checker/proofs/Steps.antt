@@ -10,8 +10,7 @@ use lib.ListN.{getD, length, length-drop, length-take}
 use Rattle.tokens.proofs.Places.{cases}
 use Rattle.tokens.specs.Expr.{wholeOf}
 use Rattle.tokens.specs.Token.{numberAt}
-use Rattle.fields.specs.Cursor.{placeOf, stays, stepAt}
-use Rattle.fields.specs.Layout.{isCut, isEnd}
+use Rattle.fields.specs.Cursor.{isCut, isEnd, placeOf, stays, stepAt}
 use Rattle.fields.specs.Payload.{allNamed, assumePart, constantPart, definitionPart, endPart, extendsPart, instancePart, instanceRest, lawfulHead, modulePart, partsOf, theoremPart, variablePart}
 use Rattle.fields.specs.Substitution.{part, substitutionsFit}
 use Rattle.fields.specs.declared.Cursor.{Cursor}

@@ -22,8 +22,7 @@ use Rattle.laws.proofs.Fields.{field-back, field-some}
 use Rattle.laws.proofs.Running.{run, run-cut, run-end, run-next, run-refused}
 use Rattle.worlds.specs.Rows.{rowsAfter}
 use Rattle.tokens.proofs.Writing.{Bytes}
-use Rattle.fields.specs.Cursor.{placeOf, stepAt}
-use Rattle.fields.specs.Layout.{isCut, isEnd}
+use Rattle.fields.specs.Cursor.{isCut, isEnd, placeOf, stepAt}
 use Rattle.fields.specs.declared.Cursor.{Cursor}
 use Rattle.fields.specs.declared.Step.{Step}
 use Rattle.agree.proofs.Fields.{reads}
@@ -38,9 +37,8 @@ use Rattle.judge_plain.specs.declared.Judged.{Judged}
 use Rattle.judge_plain.specs.declared.Phase.the-variants.{Begun, Inside, Outside}
 use Rattle.judge_plain.specs.declared.Phase.{Phase}
 use Rattle.standing.specs.Standing.{AtField, Judging, Standing, Underway, underway}
-use Rattle.checker.specs.Reply.{endReply}
 use Rattle.checker.specs.Settles.{Midway, Settles, midway}
-use Rattle.checker.specs.Turned.{Turned, stopped, turnOf}
+use Rattle.checker.specs.Turned.{Turned, endReply, stopped, turnOf}
 use Rattle.checker.specs.declared.Reply.the-variants.{Refused}
 use Rattle.checker.specs.declared.Reply.{Reply}
 use Rattle.checker.specs.declared.judging.Turn.{Turn}

@@ -11,11 +11,18 @@ use Rattle.fields.specs.declared.Step.{Step}
 use Rattle.context.specs.Store.{Store}
 use Rattle.context.specs.declared.Counts.{Counts}
 use Rattle.judge_plain.specs.declared.Judged.{Judged}
+use Rattle.judge_plain.specs.declared.Phase.the-variants.{Begun, Inside, Outside}
 use Rattle.judge_plain.specs.declared.Phase.{Phase}
 use Rattle.checker.specs.Settles.{Midway, Settles}
-use Rattle.checker.specs.declared.Reply.the-variants.{Refused}
+use Rattle.checker.specs.declared.Reply.the-variants.{Accepted, Refused}
 use Rattle.checker.specs.declared.Reply.{Reply}
 use Rattle.checker.specs.declared.judging.Turn.{Turn}
+
+-- at the end of a file of n definitions: "file ends inside a module", at "the number of fields"
+abbrev pub endReply : Phase → ℕ → ℕ → Reply
+endReply Outside n p = Accepted n
+endReply Begun n p = Refused 4 p
+endReply Inside n p = Refused 4 p
 
 abbrev pub stopped : Reply → Cursor → Phase → Counts → Turn
 stopped r at p c = record { done = true; reply = r; at = at; phase = p; counts = c }

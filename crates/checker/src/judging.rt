@@ -2,59 +2,23 @@
 ghost use mathlib.Core.Path.{_≡_};
 ghost use Prim.Native.Nat.{_≤_};
 ghost use lib.ListN.{length};
-ghost use Rattle.limits.specs.Limits.{codeCount, fileBytes, maxDeclarations, maxDefinitions};
-ghost use Rattle.fields.specs.Layout.{isCut, isEnd};
+ghost use Rattle.limits.specs.Limits.{fileBytes, maxDeclarations, maxDefinitions};
+ghost use Rattle.limits.specs.Sizes.{codeCount};
 ghost use Rattle.context.proofs.Adds.{empty};
 ghost use Rattle.context.specs.Store.{store};
 ghost use Rattle.levels.specs.Tables.{tableWords};
-ghost use Rattle.checker.specs.Reply.{endReply};
 ghost use Rattle.checker.specs.Settles.{Midway, Settles};
-ghost use Rattle.checker.specs.Turned.{Turned, stopped, turnOf};
+ghost use Rattle.checker.specs.Turned.{Turned, endReply, stopped, turnOf};
 ghost use Rattle.tokens.proofs.Writing.{Bytes};
 use crate::Reply;
 use context::Counts;
 use dispatch::judge_field;
 use fields::Cursor;
-use fields::Parts;
 use fields::Step;
+use fields::is_cut;
+use fields::is_end;
 use judge_plain::Judged;
 use judge_plain::Phase;
-
-fn is_cut(x: Parts) -> bool
-    ensures { λ r. ⌜ r ≡ isCut x ⌝ }
-{
-    match x {
-        Parts::Module(_) => false,
-        Parts::Extends(_, _) => false,
-        Parts::Constant(_, _) => false,
-        Parts::Variable(_) => false,
-        Parts::Definition(_, _, _, _) => false,
-        Parts::Instance(_, _, _, _, _) => false,
-        Parts::EndModule => false,
-        Parts::Assume(_, _) => false,
-        Parts::Theorem(_, _) => false,
-        Parts::Cut => true,
-        Parts::EndOfFile => false,
-    }
-}
-
-fn is_end(x: Parts) -> bool
-    ensures { λ r. ⌜ r ≡ isEnd x ⌝ }
-{
-    match x {
-        Parts::Module(_) => false,
-        Parts::Extends(_, _) => false,
-        Parts::Constant(_, _) => false,
-        Parts::Variable(_) => false,
-        Parts::Definition(_, _, _, _) => false,
-        Parts::Instance(_, _, _, _, _) => false,
-        Parts::EndModule => false,
-        Parts::Assume(_, _) => false,
-        Parts::Theorem(_, _) => false,
-        Parts::Cut => false,
-        Parts::EndOfFile => true,
-    }
-}
 
 // How a file is settled: the reply, and on acceptance what was counted.
 pub struct Verdict {

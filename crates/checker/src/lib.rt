@@ -5,12 +5,13 @@ ghost use mathlib.Core.Bool.{false, true};
 ghost use mathlib.Core.Path.{_≡_};
 ghost use Prim.Native.Nat.{_≤_};
 ghost use lib.ListN.{length};
-ghost use Rattle.limits.specs.Limits.{cardMemoryBytes, codeCount, factsLength, fileBytes, maxDeclarations, maxDefinitions};
+ghost use Rattle.limits.specs.Limits.{cardMemoryBytes, fileBytes, maxDeclarations, maxDefinitions};
+ghost use Rattle.limits.specs.Sizes.{codeCount, factsLength};
 ghost use Rattle.context.proofs.Adds.{empty};
 ghost use Rattle.context.specs.Store.{store};
 ghost use Rattle.levels.specs.Tables.{tableWords};
 ghost use Rattle.rules.specs.Bytes.{isEmpty};
-ghost use Rattle.rules.specs.Run.{check};
+ghost use Rattle.rules.specs.Run.{fileCheck};
 ghost use Rattle.tokens.proofs.Writing.{Bytes};
 ghost use Rattle.checker.specs.Reply.{answerOf};
 ghost use Rattle.checker.specs.Settles.{Concludes, Few, Leaves, wrongSize};
@@ -77,7 +78,7 @@ pub fn judge_in(
 // A file of lawful size.
 fn check_fields(file: &[u8], cards: &mut [u8]) -> Reply
     requires { ⌜ (cardMemoryBytes ≤ length (now cards)) × (isEmpty (now file) ≡ false) × (length (now file) ≤ fileBytes) × Bytes (now file) ⌝ }
-    ensures { λ r. ⌜ answerOf r (now (cards .exit)) ≡ check (now (file .entry)) (now (cards .entry)) ⌝ }
+    ensures { λ r. ⌜ answerOf r (now (cards .exit)) ≡ fileCheck (now (file .entry)) (now (cards .entry)) ⌝ }
 {
     let mut names = Limits::no_names();
     let mut facts = Limits::no_facts();
@@ -109,7 +110,7 @@ fn check_fields(file: &[u8], cards: &mut [u8]) -> Reply
 // Refusal 2: the cards are zeroed.
 fn refuse_size(file: &[u8], cards: &mut [u8]) -> Reply
     requires { ⌜ (cardMemoryBytes ≤ length (now cards)) × (wrongSize (now file) ≡ true) ⌝ }
-    ensures { λ r. ⌜ answerOf r (now (cards .exit)) ≡ check (now (file .entry)) (now (cards .entry)) ⌝ }
+    ensures { λ r. ⌜ answerOf r (now (cards .exit)) ≡ fileCheck (now (file .entry)) (now (cards .entry)) ⌝ }
 {
     clear_cards(cards);
     Reply::Refused(2, 0)
@@ -127,7 +128,7 @@ pub fn wrong_size(file: &[u8]) -> bool
 
 // Checks a file, and fills the lent card memory.
 pub fn check(file: &[u8], cards: &mut [u8]) -> Reply
-    ensures { λ r. ⌜ answerOf r (now (cards .exit)) ≡ check (now (file .entry)) (now (cards .entry)) ⌝ }
+    ensures { λ r. ⌜ answerOf r (now (cards .exit)) ≡ fileCheck (now (file .entry)) (now (cards .entry)) ⌝ }
 {
     if cards.len() < Limits::CARD_MEMORY_BYTES {
         return Reply::Refused(1, 0);

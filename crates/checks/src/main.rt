@@ -1,13 +1,15 @@
-// Checks many files with `check` itself: standard input holds records one after another, each the number of bytes of card memory to
-// lend, then a file's length, both of three bytes, most significant first, and then the file. For each it prints the reply and a checksum
-// of the whole memory, lent or not: so the cards, the zeros of a refusal and every byte that has to stay are seen. Ends where the input
-// does, or at a number that is more than there is room for.
+// Checks many files by the archive's own function, reading its reply off the number as a caller in C does: standard input holds records one
+// after another, each the number of bytes of card memory to lend, then a file's length, both of three bytes, most significant first, and then
+// the file. For each it prints the reply and a checksum of the whole memory, lent or not: so the cards, the zeros of a refusal and every byte
+// that has to stay are seen. Ends where the input does, or at a number that is more than there is room for.
 ghost use Prim.Native.Nat.{_≤_, _<_};
 ghost use lib.ListN.{length};
-use checker::Reply;
 use libc::STDIN_FILENO;
 use libc::STDOUT_FILENO;
 use list_file::Input;
+use rafterclary::rafterclary_check;
+use unpacking::Number;
+use unpacking::unpack;
 
 struct Memory;
 
@@ -60,10 +62,10 @@ fn print_number(word: &[u8], x: u64) {
     io::write_all(STDOUT_FILENO, b" ");
 }
 
-fn print_reply(reply: Reply) {
+fn print_reply(reply: Number) {
     match reply {
-        Reply::Accepted(n) => print_number(b"ok ", n as u64),
-        Reply::Refused(c, p) => {
+        Number::Result(n) => print_number(b"ok ", n as u64),
+        Number::Refused(c, p) => {
             print_number(b"refused ", c as u64);
             print_number(b"", p as u64)
         }
@@ -75,8 +77,8 @@ fn check_in(file: &[u8], memory: &mut [u8], lent: usize) -> bool
     requires { ⌜ lent ≤ length (now memory) ⌝ }
 {
     mark(memory);
-    let reply = checker::check(file, &mut memory[..lent]);
-    print_reply(reply);
+    let reply = rafterclary_check(file, &mut memory[..lent]);
+    print_reply(unpack(reply));
     io::print_decimal(STDOUT_FILENO, checksum(memory) as u64);
     io::write_all(STDOUT_FILENO, b"\n")
 }

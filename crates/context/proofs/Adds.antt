@@ -13,7 +13,8 @@ use Rattle.context.proofs.Growing.{hold-define, hold-field, hold-name, 
 use Rattle.context.specs.Holds.{Holds, Linked}
 use Rattle.context.specs.Parts.{part}
 use Rattle.context.specs.Store.{Store, afterDeclaration, afterDefinitions, afterEnd, afterField, begun, contextSlot, counts, declarationRow, declaring, defining, entryAt, fieldCode, grown, kindAt, noCounts, orderSlot, ownRow, pathOf, store, stored, variableKind}
-use Rattle.limits.specs.Limits.{codeCount, contextLength, contextsLength, factsLength, headsLength, maxDefinitions, maxFields, maxModules, ordersLength}
+use Rattle.limits.specs.Limits.{maxDefinitions, maxModules}
+use Rattle.limits.specs.Sizes.{codeCount, contextLength, contextsLength, factsLength, headsLength, maxFields, ordersLength}
 use Rattle.rules.specs.Add.{add, ownOne, withMore}
 use Rattle.rules.specs.Expression.{Expression, expression}
 use Rattle.rules.specs.Field.{assume, begin-module, declare-constant, declare-variable, definition, end-module, theorem}

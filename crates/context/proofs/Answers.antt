@@ -11,7 +11,8 @@ use Rattle.context.proofs.Repeats.{code-none, code-some}
 use Rattle.context.specs.Lookup.{asCode, broughtAt, broughtIn, codeNamed, codeUnder, declaredNamed, declaresName, definesNameIn, definitionAmong, instanceAmong, isDeclared, isInstance, operatorAt, operatorIn, repeatedIn, standsUnder}
 use Rattle.context.specs.Parts.{part, placeOf}
 use Rattle.context.specs.Store.{contextCodes, contextSlot, instanceKind, variableKind, viaAt}
-use Rattle.limits.specs.Limits.{columnCount, contextLength, maxDefinitions}
+use Rattle.limits.specs.Limits.{maxDefinitions}
+use Rattle.limits.specs.Sizes.{columnCount, contextLength}
 use Rattle.rules.specs.Expression.{first}
 use Rattle.theory.specs.Lists.{isSome, numbersFrom}
 use Rattle.theory.specs.Tree.{count}

@@ -9,7 +9,8 @@ use Rattle.context.proofs.Change.{begun-codes, begun-no-codes, begun-ot
 use Rattle.context.proofs.Growing.{known-more, shown-within, state, up-to}
 use Rattle.context.specs.Holds.{Holds, Known, Sized}
 use Rattle.context.specs.Store.{Store, afterEnd, afterField, begun, codesOf, contextSlot, headed, moduleAt, orderSlot}
-use Rattle.limits.specs.Limits.{maxDefinitions, maxFields, maxModules}
+use Rattle.limits.specs.Limits.{maxDefinitions, maxModules}
+use Rattle.limits.specs.Sizes.{maxFields}
 use Rattle.rules.specs.State.{Phase, State, noModule}
 use Rattle.theory.specs.Lists.{All}
 use Rattle.context.specs.declared.Counts.{Counts}

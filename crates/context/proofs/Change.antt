@@ -9,7 +9,8 @@ use Rattle.context.proofs.Parts.{map-each, map-snoc, part-push, part-se
 use Rattle.context.specs.Holds.{Linked}
 use Rattle.context.specs.Parts.{part}
 use Rattle.context.specs.Store.{Store, begun, codesOf, contextSlot, describedAs, entryAt, headed, kindAt, linkAt, longer, moduleAt, orderOf, orderSlot, pathOf, sourceAt, store, stored, withCode, withNumber}
-use Rattle.limits.specs.Limits.{columnCount, contextLength, headsLength, maxDefinitions, maxModules}
+use Rattle.limits.specs.Limits.{maxDefinitions, maxModules}
+use Rattle.limits.specs.Sizes.{columnCount, contextLength, headsLength}
 use Rattle.rules.specs.Add.{withMore}
 use Rattle.rules.specs.State.{Context, Module}
 use Rattle.theory.proofs.Lists.{map-all}

@@ -22,7 +22,8 @@ use Rattle.context.specs.Joining.{Below, Extendable, Extended, Marked, S
 use Rattle.context.specs.Lookup.{codeNamed, repeatedIn}
 use Rattle.context.specs.Parts.{part, placeOf}
 use Rattle.context.specs.Store.{Store, afterField, codesOf, contextSlot, countAt, entryAt, firstAt, kindAt, moduleAt, orderOf, orderSlot, store, variableKind}
-use Rattle.limits.specs.Limits.{contextLength, maxDefinitions, maxFields, maxModules}
+use Rattle.limits.specs.Limits.{maxDefinitions, maxModules}
+use Rattle.limits.specs.Sizes.{contextLength, maxFields}
 use Rattle.rules.specs.Add.{add, extendedDefinitions, extendedModule}
 use Rattle.rules.specs.Field.{extends}
 use Rattle.rules.specs.Instance.{source}

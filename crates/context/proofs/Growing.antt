@@ -10,7 +10,8 @@ use Prim.Native.Nat.{_*_, _+_, _<_, _≤_, suc, ℕ}
 use Rattle.context.proofs.Change.{enter-definition, enter-linked, enter-module, enter-new, enter-new-linked, entered, order-codes, order-other, order-same, ordered, push-codes-other, push-codes-same, push-other, push-same, pushed, stored-length}
 use Rattle.context.specs.Holds.{Holds, Known, Linked, Sized, moduleNo}
 use Rattle.context.specs.Store.{Store, codesOf, contextSlot, counts, describedAs, entryAt, fieldCode, linkAt, moduleAt, orderSlot, pathOf, sourceAt, stored}
-use Rattle.limits.specs.Limits.{contextLength, contextsLength, maxDefinitions, maxFields, ordersLength}
+use Rattle.limits.specs.Limits.{maxDefinitions}
+use Rattle.limits.specs.Sizes.{contextLength, contextsLength, maxFields, ordersLength}
 use Rattle.rules.specs.Add.{withMore}
 use Rattle.rules.specs.Expression.{code}
 use Rattle.rules.specs.State.{Added, Entry, Module, Phase, State, defines, definitionAt, noDefinition, noModule}

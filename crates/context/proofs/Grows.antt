@@ -6,7 +6,8 @@ use lib.Seq.{getD-set-other}
 use native.Mathlib.Omega.{arith}
 use Prim.Native.Nat.{_*_, _+_, _<_, _≤_, ℕ}
 use Rattle.context.specs.Store.{contextSlot, grown, orderSlot, withNumber, wordCount}
-use Rattle.limits.specs.Limits.{headsLength, maxDefinitions, maxModules, ordersLength}
+use Rattle.limits.specs.Limits.{maxDefinitions, maxModules}
+use Rattle.limits.specs.Sizes.{headsLength, ordersLength}
 
 pub slot-same : (heads h : List ℕ) (m x : ℕ) → h ≡ set heads (contextSlot m) x → getD h (orderSlot m) 0 ≡ getD heads (orderSlot m) 0
 slot-same heads h m x e = ap (λ (l : List ℕ). getD l (orderSlot m) 0) e ∙ getD-set-other heads (contextSlot m) (orderSlot m) x 0 (λ (q : orderSlot m ≡ contextSlot m). omega arith)

@@ -15,7 +15,8 @@ use Rattle.context.proofs.Parts.{part-end, part-length, part-push, part
 use Rattle.context.specs.Joining.{Below, Extendable, Extended, Marked, Small, joined}
 use Rattle.context.specs.Parts.{part}
 use Rattle.context.specs.Store.{contextSlot, orderSlot}
-use Rattle.limits.specs.Limits.{contextLength, headsLength, maxDefinitions}
+use Rattle.limits.specs.Limits.{maxDefinitions}
+use Rattle.limits.specs.Sizes.{contextLength, headsLength}
 use Rattle.rules.specs.Instance.{source}
 use Rattle.theory.proofs.Form.{at}
 use Rattle.theory.specs.Lists.{All, any, union}

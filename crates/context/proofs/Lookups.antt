@@ -15,7 +15,7 @@ use Rattle.context.specs.Lookup.{asCode, broughtAt, broughtIn, codeNamed
 use Rattle.context.specs.Parts.{part, placeOf}
 use Rattle.context.specs.Store.{Store, codesOf, entryAt, instanceKind, kindAt, pathOf, variableKind, viaAt}
 use Rattle.limits.specs.Limits.{maxDefinitions}
-use Rattle.laws.proofs.Causes.{holds}
+use Rattle.laws.specs.Lawful.{holds}
 use Rattle.rules.specs.State.{Added, Context, Entry, Module, State, declares, defines, definitionAt, definitionNamed, entryNamed, instanceOf, instances, moduleNamed, nameOf, noModule, operatorNamed, operatorOf}
 use Rattle.theory.proofs.Form.{at}
 use Rattle.theory.specs.Lists.{All, bindOption, find, numbersFrom, sameNumbers}

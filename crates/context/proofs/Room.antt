@@ -6,7 +6,8 @@ use Prim.Native.Nat.{_*_, _+_, _<_, _≤_, ℕ}
 use Rattle.context.proofs.Parts.{part-length}
 use Rattle.context.specs.Holds.{Holds, moduleNo}
 use Rattle.context.specs.Store.{Store, contextSlot, kindAt, orderOf, orderSlot}
-use Rattle.limits.specs.Limits.{contextLength, maxDefinitions, maxFields}
+use Rattle.limits.specs.Limits.{maxDefinitions}
+use Rattle.limits.specs.Sizes.{contextLength, maxFields}
 use Rattle.rules.specs.State.{Added, Module, State, paramsOf}
 use Rattle.context.specs.declared.Counts.{Counts}
 

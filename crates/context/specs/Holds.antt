@@ -3,7 +3,8 @@ use mathlib.Core.List.{List, [], _∷_, _++_}
 use mathlib.Core.Path.{_≡_}
 use Prim.Native.Nat.{ℕ, _+_, _≤_, _<_}
 use lib.ListN.{getD, length}
-use Rattle.limits.specs.Limits.{codeCount, contextsLength, factsLength, headsLength, maxDefinitions, maxFields, maxModules, ordersLength}
+use Rattle.limits.specs.Limits.{maxDefinitions, maxModules}
+use Rattle.limits.specs.Sizes.{codeCount, contextsLength, factsLength, headsLength, maxFields, ordersLength}
 use Rattle.theory.specs.Expand.{Definition, brought, own}
 use Rattle.theory.specs.Lists.{All}
 use Rattle.rules.specs.State.{Module, State, definitionAt, noModule}

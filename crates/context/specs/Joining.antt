@@ -5,7 +5,8 @@ use mathlib.Core.Path.{_≡_}
 use Prim.Native.Nat.{ℕ, suc, _+_, _*_, _≤_, _<_}
 use lib.Dec.{eqb}
 use lib.ListN.{getD, length, set}
-use Rattle.limits.specs.Limits.{contextLength, contextsLength, headsLength, maxDefinitions, maxModules, ordersLength}
+use Rattle.limits.specs.Limits.{maxDefinitions, maxModules}
+use Rattle.limits.specs.Sizes.{contextLength, contextsLength, headsLength, ordersLength}
 use Rattle.theory.specs.Lists.{All, any, union}
 use Rattle.rules.specs.State.{Module, sameOrigin}
 use Rattle.context.specs.Parts.{part}
@@ -59,7 +60,7 @@ pub record Extended (contexts orders heads contexts′ orders′ heads′ marks 
   pub contexts-below : Below (k * contextLength) contexts contexts′
   pub orders-below : Below (k * maxDefinitions) orders orders′
 
--- "EXTENDS brings everything of the named modules": a module with the context and the definitions of another
+-- EXTENDS "brings everything of the named modules under the numbers it has": a module with the context and the definitions of another
 abbrev pub moduleJoined : Module → Module → Module
 moduleJoined M N =
     record { name = M .name; context = union sameOrigin (M .context) (N .context); definitions = union eqb (M .definitions) (N .definitions) }

@@ -2,7 +2,8 @@
 ghost use mathlib.Core.Path.{_≡_};
 ghost use Prim.Native.Nat.{_+_, _*_, _≤_, _<_, _^_};
 ghost use lib.ListN.{length, getD, set};
-ghost use Rattle.limits.specs.Limits.{maxDeclarations, codeCount, contextLength, contextsLength, factsLength, headsLength, maxDefinitions, maxFields, maxModules, ordersLength};
+ghost use Rattle.limits.specs.Limits.{maxDeclarations, maxDefinitions, maxModules};
+ghost use Rattle.limits.specs.Sizes.{codeCount, contextLength, contextsLength, factsLength, headsLength, maxFields, ordersLength};
 ghost use Rattle.context.specs.Store.{contextSlot, orderSlot, fieldCode, stored, headed, grown, withCode, withNumber, longer, declarationRow, ownRow, afterField, afterEnd, afterDeclaration, afterDefinitions};
 use crate::Counts;
 use crate::Row;

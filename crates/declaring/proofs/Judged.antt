@@ -8,7 +8,8 @@ use Prim.Native.Nat.{ℕ, _+_, _<_}
 use native.Mathlib.Omega.{arith}
 use lib.Dec.{eqb}
 use lib.ListN.{getD, set}
-use Rattle.limits.specs.Limits.{contextLength, maxDeclarations, maxDefinitions}
+use Rattle.limits.specs.Limits.{maxDeclarations, maxDefinitions}
+use Rattle.limits.specs.Sizes.{contextLength}
 use Rattle.theory.specs.Term.{Kind, constant, kindArity, variable}
 use Rattle.rules.specs.Add.{add}
 use Rattle.rules.specs.Field.{Field}

@@ -9,10 +9,11 @@ use native.Mathlib.Omega.{arith}
 use lib.Dec.{ltb}
 use lib.ListN.{List·getD-append, getD, length, length-append, length-set, set}
 use lib.Seq.{getD-append-seam, getD-set-other, getD-set-same}
-use Rattle.limits.specs.Limits.{codeCount, maxArity, maxDeclarations, maxDefinitions, maxFields}
+use Rattle.limits.specs.Limits.{maxArity, maxDeclarations, maxDefinitions}
+use Rattle.limits.specs.Sizes.{codeCount, maxFields}
 use Rattle.theory.specs.Lists.{All, _∷?_}
 use Rattle.theory.specs.Term.{Kind, constant, declaredLevel, kindArity, variable}
-use Rattle.theory.proofs.Levels.{IsLevel}
+use Rattle.theory.specs.Level.{IsLevel}
 use Rattle.rules.specs.Add.{add}
 use Rattle.rules.specs.Field.{Field, declare-constant, declare-variable}
 use Rattle.rules.specs.Judge.{judge}

@@ -3,7 +3,8 @@ use mathlib.Core.List.{List}
 use mathlib.Core.Path.{_≡_, subst, subst⁻¹}
 use Prim.Native.Nat.{ℕ, _+_, _-_, _*_, _≤_, _<_}
 use lib.ListN.{length}
-use Rattle.limits.specs.Limits.{codeCount, fileBytes, headsLength, maxDeclarations, maxDefinitions, maxFields, maxModules}
+use Rattle.limits.specs.Limits.{fileBytes, maxDeclarations, maxDefinitions, maxModules}
+use Rattle.limits.specs.Sizes.{codeCount, headsLength, maxFields}
 use Rattle.tokens.specs.Token.{numberAt}
 use Rattle.fields.specs.declared.Parts.the-variants.{Module, Extends, Definition, Instance, EndModule, Cut, EndOfFile}
 use Rattle.fields.specs.declared.Parts.{Parts}

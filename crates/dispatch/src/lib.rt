@@ -1,7 +1,8 @@
 // One field, judged by its own judge.
 ghost use mathlib.Core.Path.{_≡_};
 ghost use lib.ListN.{length};
-ghost use Rattle.limits.specs.Limits.{codeCount, maxDefinitions};
+ghost use Rattle.limits.specs.Limits.{maxDefinitions};
+ghost use Rattle.limits.specs.Sizes.{codeCount};
 ghost use Rattle.context.specs.Store.{store};
 ghost use Rattle.standing.specs.Standing.{Judging, Underway};
 use context::Counts;

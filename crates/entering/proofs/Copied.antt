@@ -9,7 +9,8 @@ use borrow.Author.Tests.{eq-eqb, ne-eqb, eqb-true}
 use lib.Dec.{eqb}
 use lib.ListN.{getD, length}
 use lib.Seq.{length-paste}
-use Rattle.limits.specs.Limits.{columnCount, maxDeclarations}
+use Rattle.limits.specs.Limits.{maxDeclarations}
+use Rattle.limits.specs.Sizes.{columnCount}
 use Rattle.theory.specs.Lists.{bindOption}
 use Rattle.forms.specs.declared.Form.{Form}
 use Rattle.forms.specs.Tables.{formAt, stored, words as formWords}

@@ -12,7 +12,8 @@ use Rattle.theory.specs.Lists.{All, bindOption}
 use Rattle.theory.specs.Term.{Arities, Every, Fits, Kind, Term, constant, kindArity, longWay, variable}
 use Rattle.theory.specs.Expand.{itself}
 use Rattle.theory.proofs.ExpandFirst.{Keeps, eval-good}
-use Rattle.theory.proofs.Levels.{IsLevel, levels-kept}
+use Rattle.theory.proofs.Levels.{levels-kept}
+use Rattle.theory.specs.Level.{IsLevel}
 use Rattle.theory.proofs.Lists.{append-all}
 use Rattle.tokens.specs.Expr.{Expr, exprAt, found}
 use Rattle.tokens.specs.Limit.{countsKept}

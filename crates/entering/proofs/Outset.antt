@@ -7,10 +7,9 @@ use borrow.Author.Tests.{le-leb}
 use lib.ListN.{length}
 use lib.Seq.{take-all}
 use Rattle.limits.specs.Limits.{maxArity}
-use Rattle.theory.specs.Level.{highest}
+use Rattle.theory.specs.Level.{IsLevel, highest}
 use Rattle.theory.specs.Lists.{All}
 use Rattle.theory.specs.Term.{Kind, constant, declaredLevel, kindArity, variable}
-use Rattle.theory.proofs.Levels.{IsLevel}
 use Rattle.context.specs.Store.{variableKind}
 use Rattle.entering.specs.Itself.{itselfLevel}
 use Rattle.texts.proofs.Levels.{firsts-take}

@@ -9,13 +9,12 @@ use lib.Dec.{ltb}
 use lib.ListN.{drop, getD, length, take}
 use lib.Seq.{getD-drop, length-take-le}
 use Rattle.limits.specs.Limits.{maxDefinitions, maxNesting}
-use Rattle.theory.specs.Level.{bindsIn, incorrect, plain}
+use Rattle.theory.specs.Level.{IsLevel, bindsIn, incorrect, plain}
 use Rattle.theory.specs.Lists.{All, numbersFrom}
 use Rattle.theory.specs.Tree.{_▹_, count, mapTrees, node, ⟨⟩}
 use Rattle.theory.specs.Term.{Arities, Every, Everys, Fits, Head, Kind, Term, Terms, binder, declared, defined, eval, evals, kindArity, longWay}
 use Rattle.theory.specs.Expand.{itself, paramsFrom}
 use Rattle.theory.proofs.ExpandFirst.{Keeps}
-use Rattle.theory.proofs.Levels.{IsLevel}
 use Rattle.theory.proofs.Lists.{append-all}
 use Rattle.tokens.specs.Expr.{Expr, Exprs, Placed, exprAt, found}
 use Rattle.tokens.specs.Limit.{countsKept}

@@ -8,7 +8,8 @@ use native.Mathlib.Omega.{arith}
 use borrow.Author.Tests.{eq-eqb, ne-eqb}
 use lib.ListN.{getD, length}
 use lib.Seq.{length-paste}
-use Rattle.limits.specs.Limits.{columnCount, contextLength, maxDeclarations}
+use Rattle.limits.specs.Limits.{maxDeclarations}
+use Rattle.limits.specs.Sizes.{columnCount, contextLength}
 use Rattle.theory.specs.Lists.{bindOption}
 use Rattle.forms.specs.declared.Form.{Form}
 use Rattle.forms.specs.Forms.{Gives}

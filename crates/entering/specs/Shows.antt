@@ -7,7 +7,7 @@ use Prim.Native.Nat.{ℕ, _-_}
 use lib.Dec.{ltb}
 use lib.ListN.{getD, length}
 use Rattle.limits.specs.Limits.{maxDefinitions}
-use Rattle.theory.proofs.Levels.{IsLevel}
+use Rattle.theory.specs.Level.{IsLevel}
 use Rattle.theory.specs.Lists.{All}
 use Rattle.theory.specs.Tree.{_▹_, node, ⟨⟩}
 use Rattle.theory.specs.Term.{kindArity, longWay}

@@ -1,3 +1,4 @@
+pub mod Reply
 pub mod Held
 pub mod Reports
 pub mod Asks

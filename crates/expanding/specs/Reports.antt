@@ -11,7 +11,3 @@ use Rattle.expanding.specs.declared.Expanded.the-variants.{Length, Refus
 abbrev pub Reports : Outcome (List ℕ) → Expanded → List ℕ → List ℕ → Type 0
 Reports x (Length n) before after = (bytes : List ℕ) × (x ≡ result bytes) × (n ≡ length bytes) × (after ≡ overwrite bytes before)
 Reports x (Refused c p) before after = (x ≡ refusal c p) × (after ≡ before)
-
-abbrev pub outcomeOf : Expanded → Outcome ℕ
-outcomeOf (Length n) = result n
-outcomeOf (Refused c p) = refusal c p

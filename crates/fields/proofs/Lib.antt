@@ -1,4 +1,3 @@
 pub mod Substituting
 pub mod Payloads
 pub mod Steps
-pub mod Turns

@@ -1,4 +1,3 @@
 pub mod Substitution
 pub mod Payload
 pub mod Cursor
-pub mod Layout

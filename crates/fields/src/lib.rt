@@ -5,8 +5,7 @@ pub mod substitutions;
 ghost use mathlib.Core.Path.{_≡_};
 ghost use Prim.Native.Nat.{_+_, _<_, _^_};
 ghost use lib.ListN.{length};
-ghost use Rattle.fields.specs.Cursor.{stepAt, stays, goes};
-ghost use Rattle.fields.specs.Layout.{layoutOf, isCut, isEnd};
+ghost use Rattle.fields.specs.Cursor.{stepAt, stays, goes, isCut, isEnd};
 
 // A field's number from 0, and where it begins: at position number + offset. So no cursor has a number past its position, and the number of the
 // field after one that is in the file is no larger than a position.
@@ -116,13 +115,8 @@ impl Cursor {
     }
 }
 
-// How far the layout is sound: to the end, with the number of fields; or to a field that is cut, with its number.
-pub enum Layout {
-    Sound(usize),
-    CutAt(usize),
-}
-
-fn is_cut(x: Parts) -> bool
+// Whether the bytes there are no field.
+pub fn is_cut(x: Parts) -> bool
     ensures { λ r. ⌜ r ≡ isCut x ⌝ }
 {
     match x {
@@ -140,7 +134,8 @@ fn is_cut(x: Parts) -> bool
     }
 }
 
-fn is_end(x: Parts) -> bool
+// Whether no bytes are left.
+pub fn is_end(x: Parts) -> bool
     ensures { λ r. ⌜ r ≡ isEnd x ⌝ }
 {
     match x {
@@ -155,24 +150,5 @@ fn is_end(x: Parts) -> bool
         Parts::Theorem(_, _) => false,
         Parts::Cut => false,
         Parts::EndOfFile => true,
-    }
-}
-
-// The fields one after another, from the first: how a loop uses the cursor.
-pub fn layout_of(s: &[u8]) -> Layout
-    ensures { λ r. ⌜ r ≡ layoutOf (now (s .entry)) ⌝ }
-{
-    let mut c = Cursor::first();
-    loop {
-        let step = c.read(s);
-        let x = step.parts;
-        if is_end(x) {
-            return Layout::Sound(step.number);
-        }
-        if is_cut(x) {
-            return Layout::CutAt(step.number);
-        }
-        let next = step.next;
-        c = next;
     }
 }

@@ -8,9 +8,8 @@ use native.Mathlib.Omega.{arith}
 use lib.Bits.{bitOr, or-lt}
 use lib.ListN.{getD, length, take}
 use lib.Pow.{pow-lt}
-use Rattle.theory.specs.Level.{builtinLevel, highest, row, rowLevel}
+use Rattle.theory.specs.Level.{IsLevel, builtinLevel, highest, row, rowLevel}
 use Rattle.theory.specs.Lists.{All}
-use Rattle.theory.proofs.Levels.{IsLevel}
 use Rattle.forms.specs.declared.Demand.{Demand}
 use Rattle.forms.specs.declared.Demand.the-variants.{UpTo1, UpTo2, UpTo3, NotTransition}
 use Rattle.forms.specs.declared.Tests.{Tests}

@@ -9,10 +9,10 @@ use lib.ListN.{getD, length, replicate}
 use Rattle.theory.proofs.ExpandFirst.{Keeps, evals-good, length-evals}
 use Rattle.theory.proofs.Fusion.{fusion}
 use Rattle.theory.proofs.Hom.{Carries, carry}
-use Rattle.theory.proofs.Levels.{IsLevel, bound-level, levels-kept}
+use Rattle.theory.proofs.Levels.{bound-level, levels-kept}
+use Rattle.theory.specs.Level.{IsLevel, bindsIn, boundLevel, plain, row, rowLevel}
 use Rattle.theory.proofs.Lists.{append-all, replicate-all}
 use Rattle.theory.specs.Expand.{rebuild}
-use Rattle.theory.specs.Level.{bindsIn, boundLevel, plain, row, rowLevel}
 use Rattle.theory.specs.Lists.{All}
 use Rattle.theory.specs.Term.{Arities, Fits, Head, Kind, Leaf, Reading, Term, Terms, WellFormed, binder, bound, builtin, byCards, constant, declared, declaredLevel, defined, eval, evals, leafLevel, level, literal, longWay, meaning, param as paramHead, leaf as leafHead, variable, withDefined}
 use Rattle.theory.specs.Tree.{count, node}

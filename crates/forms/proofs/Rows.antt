@@ -7,9 +7,8 @@ use Prim.Native.Nat.{ℕ, zero, suc, _≤_}
 use native.Mathlib.Omega.{arith}
 use lib.Dec.{T, eqb, eqb→eq, leb, leb→le}
 use lib.ListN.{getD, length}
-use Rattle.theory.proofs.Levels.{IsLevel}
+use Rattle.theory.specs.Level.{IsLevel, Mask, Result, Row, allTaken, always, anyLevel, has, highest, resultLevel, row, rowLevel, table, taken, theHighest}
 use Rattle.theory.proofs.Lists.{and-parts, none-some}
-use Rattle.theory.specs.Level.{Mask, Result, Row, allTaken, always, anyLevel, has, highest, resultLevel, row, rowLevel, table, taken, theHighest}
 use Rattle.theory.specs.Lists.{All, find, mapOption, sameNumbers}
 use Rattle.forms.specs.declared.Tests.{Tests}
 use Rattle.forms.specs.declared.Form.{Form}

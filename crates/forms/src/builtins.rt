@@ -4,6 +4,7 @@ use crate::Form;
 use crate::ask;
 use crate::both;
 use crate::gather;
+use rows::Rows;
 ghost use mathlib.Core.Path.{_≡_};
 ghost use mathlib.Core.Bool.{_&&_};
 ghost use Prim.Native.Nat.{ℕ, _≤_};
@@ -16,9 +17,6 @@ ghost use Rattle.forms.specs.Numbers.{demandOf, RowNumbers};
 const UP_TO_1: u8 = 3;
 
 const UP_TO_2: u8 = 7;
-
-// the result of a row that has the highest of its arguments' levels
-const HIGHEST: u8 = 5;
 
 // What a mask of levels, bit l for level l, asks.
 fn demand(mask: u8) -> Demand
@@ -78,7 +76,7 @@ pub fn builtin_form(n: usize, result: u8, mask0: u8, mask1: u8, fs: [Form; Form:
     requires { ⌜ (n ≤ width) × AllFit fs ⌝ }
     ensures { λ x. ⌜ Fit x × ((c : ℕ) → RowNumbers c n result mask0 mask1 → Gives x (λ v. builtinLevel c (take n (levelsAt fs v)))) ⌝ }
 {
-    if result == HIGHEST {
+    if result == Rows::HIGHEST {
         return highest_of(n, fs);
     }
     let f = fs[0];

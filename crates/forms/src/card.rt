@@ -50,7 +50,7 @@ fn levels_above(v: &[u8]) -> Above
 }
 
 // The highest level in s.
-fn pick(s: u8, a: Above) -> u8
+fn highest_in(s: u8, a: Above) -> u8
     ensures { λ r. ⌜ ((v : List ℕ) → a ≡ aboves v → r ≡ min 4 (pick s v)) ⌝ }
 {
     if s & a.positive == 0 {
@@ -76,7 +76,7 @@ fn kind(low: bool, s: u8, a: Above) -> bool
 }
 
 // The same of each set in d.
-fn every(low: bool, d: u64, a: Above) -> bool
+fn every_set(low: bool, d: u64, a: Above) -> bool
     ensures { λ r. ⌜ ((v : List ℕ) → a ≡ aboves v → r ≡ every (kindOver (cond low 0 2) v) d) ⌝ }
 {
     let mut ok = true;
@@ -95,8 +95,8 @@ fn every(low: bool, d: u64, a: Above) -> bool
 fn passes(t: Tests, a: Above) -> bool
     ensures { λ r. ⌜ ((v : List ℕ) → a ≡ aboves v → r ≡ pass t v) ⌝ }
 {
-    let plain = every(true, t.plain, a);
-    let strong = every(false, t.strong, a);
+    let plain = every_set(true, t.plain, a);
+    let strong = every_set(false, t.strong, a);
     !t.bad
         & ((t.one & a.one == 0)
             & ((t.two & a.two == 0) & ((t.three & a.three == 0) & (plain & strong))))
@@ -115,7 +115,7 @@ pub fn level(f: Form, v: &[u8]) -> u8
 {
     let a = levels_above(v);
     if passes(f.tests, a) {
-        capped(larger(f.base, pick(f.weights, a)))
+        capped(larger(f.base, highest_in(f.weights, a)))
     } else {
         4
     }

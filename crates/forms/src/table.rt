@@ -7,7 +7,7 @@ ghost use lib.ListN.{length};
 ghost use Rattle.forms.specs.Forms.{Fit};
 ghost use Rattle.forms.specs.Tables.{Small, bit, words, formOf, formAt, stored};
 
-fn bit(b: bool) -> u64
+fn bit_of(b: bool) -> u64
     ensures { λ r. ⌜ (r ≡ bit b) × (r ≤ 1) ⌝ }
 {
     if b { 1 } else { 0 }
@@ -25,12 +25,12 @@ fn low(x: u64) -> u8
     (x % 256) as u8
 }
 
-fn words(f: Form) -> [u64; 4]
+fn words_of(f: Form) -> [u64; 4]
     ensures { λ r. ⌜ (r ≡ words f) × Small f ⌝ }
 {
     let t = f.tests;
     [
-        bit(t.bad) + 256 * (wide(t.one) + 256 * (wide(t.two) + 256 * wide(t.three))),
+        bit_of(t.bad) + 256 * (wide(t.one) + 256 * (wide(t.two) + 256 * wide(t.three))),
         t.plain,
         t.strong,
         wide(f.base) + 256 * wide(f.weights),
@@ -73,7 +73,7 @@ pub fn store(t: &mut [u64], g: usize, f: Form)
     requires { ⌜ (g * 4 + 4 ≤ length (now t)) × Fit f ⌝ }
     ensures { λ r. ⌜ (now (t .exit) ≡ stored (now (t .entry)) g f) × (formAt (now (t .exit)) g ≡ f) ⌝ }
 {
-    let w = words(f);
+    let w = words_of(f);
     let at = g * 4;
     let mut j: usize = 0;
     while j < 4 {

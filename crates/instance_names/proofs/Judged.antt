@@ -23,8 +23,7 @@ use Rattle.fields.specs.Substitution.{nextSubstitution, part}
 use Rattle.fields.specs.declared.Parts.the-variants.{Instance}
 use Rattle.agree.specs.Parts.{SubstitutionsAt}
 use Rattle.agree.proofs.Positions.{length-part}
-use Rattle.context.specs.Parts.{placeOf}
-use Rattle.context.specs.Parts.{part as part′}
+use Rattle.context.specs.Parts.{part as part′, placeOf}
 use Rattle.context.specs.Store.{Store, codesOf, store}
 use Rattle.context.specs.declared.Counts.{Counts}
 use Rattle.resolve.proofs.Numbers.{declarationsOf}

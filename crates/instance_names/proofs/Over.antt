@@ -7,7 +7,7 @@ use Prim.Native.Nat.{ℕ, _+_, _≤_, _<_}
 use native.Mathlib.Omega.{arith}
 use lib.Dec.{ltb}
 use lib.ListN.{getD, length}
-use Rattle.limits.specs.Limits.{maxArity, maxDefinitions}
+use Rattle.limits.specs.Limits.{maxArity, maxDefinitions, maxNesting}
 use Rattle.theory.specs.Lists.{All, any}
 use Rattle.rules.specs.Expression.{overArity, overLimit}
 use Rattle.rules.specs.Field.{Substitution}
@@ -20,7 +20,6 @@ use Rattle.tokens.specs.Limit.{keptOf, limitAt}
 use Rattle.tokens.specs.Token.{numberAt}
 use Rattle.tokens.specs.declared.Limit.the-variants.{Kept, Passed}
 use Rattle.tokens.proofs.Nesting.{limited}
-use Rattle.limits.specs.Limits.{maxNesting}
 use Rattle.agree.specs.Parts.{SubstitutionsAt}
 use Rattle.agree.proofs.Limits.{limits-agree}
 use Rattle.context.specs.Holds.{Holds, moduleNo}

@@ -7,7 +7,8 @@ use Prim.Native.Nat.{ℕ, zero, suc, _+_, _-_, _*_, _≤_, _<_}
 use native.Mathlib.Omega.{arith}
 use lib.Dec.{ltb}
 use lib.ListN.{getD, length}
-use Rattle.limits.specs.Limits.{columnCount, contextLength, maxArity, maxDefinitions}
+use Rattle.limits.specs.Limits.{maxArity, maxDefinitions}
+use Rattle.limits.specs.Sizes.{columnCount, contextLength}
 use Rattle.theory.specs.Lists.{any}
 use Rattle.tokens.specs.Limit.{limitAt}
 use Rattle.tokens.specs.Token.{numberAt}

@@ -14,7 +14,8 @@ use Rattle.context.proofs.Parts.{part-end, part-length, part-set, part-turn}
 use Rattle.instancing.specs.Bringing.{bringAll, bringOne, broughtRow, instanceNoted, instanceRow, instancing, pushedContexts, pushedHeads, viaUnder}
 use Rattle.context.specs.Parts.{part}
 use Rattle.context.specs.Store.{Store, afterDefinitions, contextSlot, counts, fieldCode, grown, longer, orderSlot, row, store, stored, withCode, wordCount}
-use Rattle.limits.specs.Limits.{columnCount, contextLength, headsLength, maxDefinitions, maxModules}
+use Rattle.limits.specs.Limits.{maxDefinitions, maxModules}
+use Rattle.limits.specs.Sizes.{columnCount, contextLength, headsLength}
 use Rattle.theory.proofs.Bytes.{written}
 use Rattle.theory.proofs.Form.{at}
 use Rattle.theory.specs.Tree.{count}

@@ -15,7 +15,8 @@ use Rattle.context.proofs.Parts.{part-length}
 use Rattle.instancing.specs.Bringing.{bringAll, bringOne, broughtRow, instanceNoted, instanceRow, instancing, pushedContexts, pushedHeads, viaUnder}
 use Rattle.context.specs.Holds.{Holds, Linked, moduleNo}
 use Rattle.context.specs.Store.{Store, afterDefinitions, counts, describedAs, entryAt, fieldCode, instanceKind, kindAt, orderOf, orderSlot, pathOf, stored, variableKind, viaAt, wordCount}
-use Rattle.limits.specs.Limits.{codeCount, columnCount, factsLength, maxDefinitions, maxFields}
+use Rattle.limits.specs.Limits.{maxDefinitions}
+use Rattle.limits.specs.Sizes.{codeCount, columnCount, factsLength, maxFields}
 use Rattle.rules.specs.Add.{add, underNames, withMore}
 use Rattle.rules.specs.Expression.{first}
 use Rattle.rules.specs.Field.{Substitution, instance}

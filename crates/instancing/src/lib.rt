@@ -2,7 +2,8 @@
 ghost use mathlib.Core.Path.{_≡_};
 ghost use Prim.Native.Nat.{_+_, _-_, _*_, _%_, _≤_, _<_};
 ghost use lib.ListN.{length, getD, set};
-ghost use Rattle.limits.specs.Limits.{codeCount, contextLength, contextsLength, factsLength, headsLength, maxArity, maxDefinitions, maxFields, maxModules, ordersLength};
+ghost use Rattle.limits.specs.Limits.{maxArity, maxDefinitions, maxModules};
+ghost use Rattle.limits.specs.Sizes.{codeCount, contextLength, contextsLength, factsLength, headsLength, maxFields, ordersLength};
 ghost use Rattle.context.specs.Parts.{part};
 ghost use Rattle.context.specs.Store.{store, contextSlot, orderSlot, stored, withNumber, wordCount, afterDefinitions};
 ghost use Rattle.instancing.specs.Bringing.{viaUnder, broughtRow, pushedContexts, pushedHeads, bringOne, bringAll, instanceNoted, instancing};

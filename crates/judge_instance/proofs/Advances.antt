@@ -31,7 +31,8 @@ use Rattle.judge_plain.specs.declared.Phase.{Phase}
 use Rattle.judge_plain.specs.declared.Phase.the-variants.{Inside}
 use Rattle.laws.proofs.Causes.{clear-field}
 use Rattle.levels.proofs.Named.{numbers-at}
-use Rattle.limits.specs.Limits.{maxArity, maxDefinitions, maxFields}
+use Rattle.limits.specs.Limits.{maxArity, maxDefinitions}
+use Rattle.limits.specs.Sizes.{maxFields}
 use Rattle.resolve.proofs.Numbers.{declarationsOf}
 use Rattle.rules.specs.Add.{add}
 use Rattle.rules.specs.Field.{Field, Substitution, instance, writeField}

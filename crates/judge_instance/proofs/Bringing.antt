@@ -15,7 +15,8 @@ use Rattle.context.specs.Parts.{part}
 use Rattle.context.specs.Store.{Store, codesOf, contextSlot, firstAt, grown, kindAt, linkAt, longer, orderOf, orderSlot, sourceAt, stored, viaAt, withCode}
 use Rattle.context.specs.declared.Row.{Row}
 use Rattle.instancing.specs.Bringing.{bringAll, bringOne, broughtRow, instanceNoted, pushedContexts, pushedHeads}
-use Rattle.limits.specs.Limits.{columnCount, contextLength, contextsLength, headsLength, maxDefinitions, maxModules}
+use Rattle.limits.specs.Limits.{maxDefinitions, maxModules}
+use Rattle.limits.specs.Sizes.{columnCount, contextLength, contextsLength, headsLength}
 
 -- a list that goes on
 abbrev pub Longer : List ℕ → List ℕ → Type 0

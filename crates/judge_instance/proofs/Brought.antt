@@ -23,12 +23,11 @@ use Rattle.rules.specs.Judge.{broughtNotLevelCorrect, tooManyDefinitions}
 use Rattle.rules.specs.State.{Added, Module, State, cardLevel, definitionAt, meanings, noDefinition, paramsOf, templatesOf, zeros}
 use Rattle.theory.proofs.Demand3.{card-exact}
 use Rattle.theory.proofs.Later.{expand-later}
-use Rattle.theory.proofs.Levels.{IsLevel}
+use Rattle.theory.specs.Level.{IsLevel, verdict}
 use Rattle.theory.proofs.Lists.{any-false, append-all, at-all, map-all, or-false, replicate-all}
 use Rattle.theory.proofs.Settled.{Expands, expands}
 use Rattle.theory.proofs.Summary.{AllFormed}
 use Rattle.theory.specs.Expand.{Template, aritiesOf, bodyIn, brought, expand, instantiate, nothing, own, templateOf}
-use Rattle.theory.specs.Level.{verdict}
 use Rattle.theory.specs.Lists.{All, any, numbersFrom}
 use Rattle.theory.specs.Term.{Kind, Term, WellFormed, kindArity, level, longWay}
 use Rattle.worlds.proofs.Fields.{getD-map}

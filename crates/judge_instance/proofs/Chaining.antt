@@ -15,7 +15,8 @@ use Rattle.context.specs.declared.Counts.{Counts}
 use Rattle.entering.specs.Written.{writtenAt}
 use Rattle.laws.proofs.Invariant.{Good}
 use Rattle.laws.proofs.Origins.{Origins}
-use Rattle.limits.specs.Limits.{maxDefinitions, maxFields}
+use Rattle.limits.specs.Limits.{maxDefinitions}
+use Rattle.limits.specs.Sizes.{maxFields}
 use Rattle.resolve.proofs.Numbers.{Declares, declarationsOf, few-declarations}
 use Rattle.rules.specs.Add.{add}
 use Rattle.rules.specs.Field.{Field, Substitution, instance}

@@ -10,7 +10,8 @@ use Rattle.context.specs.Store.{Store, afterDefinitions, codesOf, contextSlot, 
 use Rattle.context.specs.declared.Counts.{Counts}
 use Rattle.context.specs.declared.Row.{Row}
 use Rattle.instancing.specs.Bringing.{bringAll, instanceRow, instancing}
-use Rattle.limits.specs.Limits.{columnCount, contextLength, maxDefinitions, maxFields}
+use Rattle.limits.specs.Limits.{maxDefinitions}
+use Rattle.limits.specs.Sizes.{columnCount, contextLength, maxFields}
 use Rattle.standing.specs.Grows.{Grows, RowsKept}
 use Rattle.judge_instance.proofs.Bringing.{Longer, all-codes, all-context-slot, all-contexts-size, all-facts, all-facts-size, all-heads-size, all-link, all-names, all-open, all-order, all-slot, all-source, longer-both, noted-codes, noted-facts, noted-first, noted-kind, noted-link, noted-names, noted-open, noted-order, noted-source, noted-via}
 

@@ -13,7 +13,8 @@ use Rattle.instancing.specs.Bringing.{instancing}
 use Rattle.laws.proofs.Invariant.{Good, source-known}
 use Rattle.laws.proofs.Paths.{Paths, paths-empty, source-paths}
 use Rattle.laws.proofs.Within.{Within}
-use Rattle.limits.specs.Limits.{maxArity, maxDefinitions, maxFields}
+use Rattle.limits.specs.Limits.{maxArity, maxDefinitions}
+use Rattle.limits.specs.Sizes.{maxFields}
 use Rattle.rules.specs.Add.{add}
 use Rattle.rules.specs.Field.{Substitution, instance}
 use Rattle.rules.specs.Instance.{source}

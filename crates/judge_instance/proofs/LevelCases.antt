@@ -19,7 +19,8 @@ use Rattle.entering.specs.declared.substitutes.Site.{Site}
 use Rattle.forms.specs.Forms.{levelAt}
 use Rattle.forms.specs.Tables.{formAt}
 use Rattle.forms.specs.declared.Form.{Form}
-use Rattle.limits.specs.Limits.{columnCount, contextLength, maxDefinitions}
+use Rattle.limits.specs.Limits.{maxDefinitions}
+use Rattle.limits.specs.Sizes.{columnCount, contextLength}
 use Rattle.rules.specs.Instance.{isKind, lawful}
 use Rattle.standing.specs.Standing.{itselves}
 use Rattle.theory.proofs.Lists.{never}

@@ -24,10 +24,9 @@ use Rattle.standing.specs.Shown.{TextShown}
 use Rattle.standing.specs.Standing.{itselves}
 use Rattle.text_levels.proofs.OwnWorld.{Shows, Tokens, own-level, tokens-found}
 use Rattle.texts.specs.Text.{Declarations, named, noDeclaration, refHead}
-use Rattle.theory.proofs.Levels.{IsLevel}
+use Rattle.theory.specs.Level.{IsLevel, bindsIn, highest, incorrect, plain}
 use Rattle.theory.proofs.Lists.{replicate-all}
 use Rattle.theory.specs.Expand.{aritiesOf, itself, paramsFrom}
-use Rattle.theory.specs.Level.{bindsIn, highest, incorrect, plain}
 use Rattle.theory.specs.Lists.{All}
 use Rattle.theory.specs.Term.{Fits, Kind, Reading, Term, WellFormed, byCards, declared, declaredLevel, defined, evals, kindArity}
 

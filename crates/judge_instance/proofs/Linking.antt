@@ -22,7 +22,8 @@ use Rattle.instancing.specs.Bringing.{instancing}
 use Rattle.laws.proofs.Invariant.{Good}
 use Rattle.laws.proofs.Origins.{Origins}
 use Rattle.laws.proofs.Resolved.{same-kind}
-use Rattle.limits.specs.Limits.{maxDefinitions, maxFields}
+use Rattle.limits.specs.Limits.{maxDefinitions}
+use Rattle.limits.specs.Sizes.{maxFields}
 use Rattle.resolve.proofs.Numbers.{Declares, declarationsOf, few-declarations}
 use Rattle.rules.specs.Expression.{Expression}
 use Rattle.rules.specs.Field.{Field, Substitution}

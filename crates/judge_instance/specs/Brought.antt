@@ -15,7 +15,8 @@ use Rattle.judge_plain.specs.declared.Judged.{Judged}
 use Rattle.judge_plain.specs.declared.Phase.{Phase}
 use Rattle.judge_plain.specs.declared.Phase.the-variants.{Inside}
 use Rattle.levels.specs.Tables.{tableWords}
-use Rattle.limits.specs.Limits.{codeCount, contextLength, contextsLength, factsLength, fileBytes, headsLength, maxArity, maxDeclarations, maxDefinitions, maxFields, maxModules, ordersLength}
+use Rattle.limits.specs.Limits.{fileBytes, maxArity, maxDeclarations, maxDefinitions, maxModules}
+use Rattle.limits.specs.Sizes.{codeCount, contextLength, contextsLength, factsLength, headsLength, maxFields, ordersLength}
 use Rattle.standing.specs.Shown.{ownerShift}
 use Rattle.standing.specs.Standing.{itselves}
 use Rattle.judge_instance.specs.Levels.{LevelsJudged}

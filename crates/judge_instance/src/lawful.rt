@@ -11,6 +11,7 @@ ghost use Rattle.levels.specs.Tables.{tableWords};
 ghost use Rattle.rules.specs.Instance.{lawful};
 ghost use Rattle.standing.specs.Standing.{itselves};
 ghost use Rattle.judge_instance.specs.Levels.{LevelFound, LevelsJudged, Tested, answers, constantCodes, fails, isFree, isVariableCode, ownKind, unevenAmong, unevenForm, variableAmong};
+use context::Kinds;
 use context::Operator;
 use context::lists::number_at;
 use context::lookup::find_declared;
@@ -36,7 +37,7 @@ fn is_free(constant: bool, kind: u16) -> bool
 fn is_lawful(constant: bool, kind: u16, level: u8) -> bool
     ensures { λ r. ⌜ r ≡ lawful constant (kindOf kind) level ⌝ }
 {
-    if kind == 256 {
+    if kind == Kinds::VARIABLE {
         return level <= 1;
     }
     if is_free(constant, kind) {
@@ -61,12 +62,12 @@ fn is_answer(kind: u16, x: Operator) -> bool
 {
     match x {
         Operator::Constant(_, k) => {
-            if kind == 256 {
+            if kind == Kinds::VARIABLE {
                 return false;
             }
             kind == k
         }
-        Operator::Variable(_) => kind == 256,
+        Operator::Variable(_) => kind == Kinds::VARIABLE,
         Operator::Defined(_) => false,
         Operator::Unknown => false,
     }
@@ -207,7 +208,7 @@ fn is_variable(facts: &[u16], o: u16) -> bool
     ensures { λ r. ⌜ r ≡ isVariableCode (now (facts .entry)) o ⌝ }
 {
     if is_declared(facts, o) {
-        return number_at(facts, Limits::COLUMNS * (o as usize)) == 256;
+        return number_at(facts, Limits::COLUMNS * (o as usize)) == Kinds::VARIABLE;
     }
     false
 }

@@ -26,7 +26,8 @@ use Rattle.judge_plain.specs.Judges.{Judges, causeNumber, phaseOf}
 use Rattle.judge_plain.specs.declared.Judged.{Judged}
 use Rattle.judge_plain.specs.declared.Phase.the-variants.{Begun, Inside, Outside}
 use Rattle.judge_plain.specs.declared.Phase.{Phase}
-use Rattle.limits.specs.Limits.{maxDefinitions, maxFields}
+use Rattle.limits.specs.Limits.{maxDefinitions}
+use Rattle.limits.specs.Sizes.{maxFields}
 use Rattle.rules.specs.Add.{add, extendedModule}
 use Rattle.rules.specs.Field.{Field, extends}
 use Rattle.rules.specs.Judge.{extendedContext, judge, notEnded}

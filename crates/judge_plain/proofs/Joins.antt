@@ -18,7 +18,8 @@ use Rattle.context.specs.Store.{Store, contextCodes, contextSlot, orderOf, orde
 use Rattle.context.specs.declared.Counts.{Counts}
 use Rattle.judge_plain.proofs.Lifted.{ended-law}
 use Rattle.judge_plain.specs.Extending.{Joinable, Joined, Listed, missingIn, withOpen}
-use Rattle.limits.specs.Limits.{contextLength, maxDefinitions}
+use Rattle.limits.specs.Limits.{maxDefinitions}
+use Rattle.limits.specs.Sizes.{contextLength}
 use Rattle.rules.specs.Add.{extendedModule}
 use Rattle.rules.specs.Instance.{source}
 use Rattle.rules.specs.Judge.{notEnded}

@@ -24,7 +24,8 @@ use Rattle.judge_plain.specs.declared.Judged.{Judged}
 use Rattle.judge_plain.specs.declared.Phase.the-variants.{Begun, Inside, Outside}
 use Rattle.judge_plain.specs.declared.Phase.{Phase}
 use Rattle.laws.proofs.Within.{Within, opened}
-use Rattle.limits.specs.Limits.{maxArity, maxDeclarations, maxFields, maxModules}
+use Rattle.limits.specs.Limits.{maxArity, maxDeclarations, maxModules}
+use Rattle.limits.specs.Sizes.{maxFields}
 use Rattle.rules.specs.Add.{add}
 use Rattle.rules.specs.Expression.{overArity}
 use Rattle.rules.specs.Field.{Field, begin-module, declare-constant, declare-variable, end-module, tag}

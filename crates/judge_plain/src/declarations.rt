@@ -2,7 +2,8 @@
 ghost use mathlib.Core.Path.{_≡_};
 ghost use Prim.Native.Nat.{_≤_, _<_};
 ghost use lib.ListN.{getD, length, set};
-ghost use Rattle.limits.specs.Limits.{codeCount, contextLength, contextsLength, factsLength, headsLength, maxFields, maxModules};
+ghost use Rattle.limits.specs.Limits.{maxModules};
+ghost use Rattle.limits.specs.Sizes.{codeCount, contextLength, contextsLength, factsLength, headsLength, maxFields};
 ghost use Rattle.context.specs.Store.{afterDeclaration, contextSlot, declarationRow, fieldCode, longer, stored, variableKind, withCode};
 ghost use Rattle.judge_plain.specs.declared.Phase.the-variants.{Inside};
 ghost use Rattle.judge_plain.specs.Causes.{answer, declarationCause, kept};

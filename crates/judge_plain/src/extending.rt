@@ -2,7 +2,8 @@
 ghost use mathlib.Core.Path.{_≡_};
 ghost use Prim.Native.Nat.{_+_, _-_, _*_, _≤_, _<_};
 ghost use lib.ListN.{length};
-ghost use Rattle.limits.specs.Limits.{codeCount, fileBytes, maxDefinitions, maxFields, maxModules};
+ghost use Rattle.limits.specs.Limits.{fileBytes, maxDefinitions, maxModules};
+ghost use Rattle.limits.specs.Sizes.{codeCount, maxFields};
 ghost use Rattle.tokens.specs.Token.{numberAt};
 ghost use Rattle.agree.specs.Parts.{namesAt};
 ghost use Rattle.context.specs.Lookup.{repeatedIn};

@@ -2,7 +2,8 @@
 ghost use mathlib.Core.Path.{_≡_};
 ghost use Prim.Native.Nat.{_+_, _≤_, _<_};
 ghost use lib.ListN.{length};
-ghost use Rattle.limits.specs.Limits.{headsLength, maxFields, maxModules};
+ghost use Rattle.limits.specs.Limits.{maxModules};
+ghost use Rattle.limits.specs.Sizes.{headsLength, maxFields};
 ghost use Rattle.context.specs.Store.{afterEnd, afterField, headed};
 ghost use Rattle.judge_plain.specs.declared.Phase.the-variants.{Begun, Outside};
 ghost use Rattle.judge_plain.specs.Causes.{answer, endCause, kept, moduleCause};

@@ -7,7 +7,8 @@ use Prim.Native.Nat.{ℕ, _<_, _≤_}
 use native.Mathlib.Omega.{arith}
 use lib.Dec.{leb, ltb}
 use lib.ListN.{getD}
-use Rattle.limits.specs.Limits.{contextLength, maxArity, maxDefinitions}
+use Rattle.limits.specs.Limits.{maxArity, maxDefinitions}
+use Rattle.limits.specs.Sizes.{contextLength}
 use Rattle.tokens.specs.Limit.{limitAt}
 use Rattle.tokens.specs.declared.Limit.{Limit}
 use Rattle.tokens.specs.declared.Limit.the-variants.{Kept, Passed}

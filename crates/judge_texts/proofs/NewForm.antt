@@ -13,7 +13,7 @@ use Rattle.limits.specs.Limits.{maxDefinitions}
 use Rattle.theory.specs.Expand.{Definition, Template, cards, own, summariesFrom, summaryOf, templateOf, templatesFrom}
 use Rattle.theory.specs.Lists.{All}
 use Rattle.theory.specs.Term.{Term, byCards, level, longWay}
-use Rattle.theory.proofs.Levels.{IsLevel}
+use Rattle.theory.specs.Level.{IsLevel}
 use Rattle.rules.specs.State.{Added, State, cardLevel, levelOf, meanings, paramsOf}
 use Rattle.forms.specs.Forms.{levelAt}
 use Rattle.forms.specs.Tables.{formAt, stored, words as wordsOf}

@@ -14,7 +14,7 @@ use Rattle.theory.specs.Expand.{aritiesOf}
 use Rattle.theory.specs.Lists.{All}
 use Rattle.theory.specs.Term.{Term, WellFormed}
 use Rattle.theory.specs.Tree.{node, ⟨⟩, _▹_}
-use Rattle.theory.proofs.Levels.{IsLevel}
+use Rattle.theory.specs.Level.{IsLevel}
 use Rattle.theory.proofs.Lists.{replicate-all}
 use Rattle.rules.specs.Expression.{Expression, expression, overLimit}
 use Rattle.rules.specs.Field.{Field}

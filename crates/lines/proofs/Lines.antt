@@ -8,7 +8,8 @@ use mathlib.Core.Bool.{cond}
 use lib.Dec.{ltb}
 use lib.ListN.{getD, length}
 use lib.Seq.{length-sets}
-use Rattle.limits.specs.Limits.{cardBytes, columnCount, maxArity, maxDefinitions}
+use Rattle.limits.specs.Limits.{cardBytes, maxArity, maxDefinitions}
+use Rattle.limits.specs.Sizes.{columnCount}
 use Rattle.rules.specs.Listing.{decimal, line}
 use Rattle.rules.specs.Run.{overwrite}
 use Rattle.forms.specs.declared.Form.{Form}

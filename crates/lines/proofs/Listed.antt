@@ -9,7 +9,7 @@ use native.Mathlib.Omega.{arith}
 use lib.ListN.{getD, length}
 use Rattle.limits.specs.Limits.{levelCount, maxArity, maxDefinitions}
 use Rattle.theory.proofs.Cards.{levels-all, levels-length}
-use Rattle.theory.proofs.Levels.{IsLevel}
+use Rattle.theory.specs.Level.{IsLevel}
 use Rattle.theory.proofs.Lists.{at-all}
 use Rattle.theory.specs.Card.{levelsOf, usedEntries}
 use Rattle.theory.specs.Lists.{All, numbersFrom}

@@ -7,7 +7,9 @@ use Prim.Native.Nat.{ℕ, _≤_, _<_}
 use native.Mathlib.Omega.{arith}
 use lib.Dec.{ltb}
 use lib.ListN.{length, length-replicate, replicate}
-use Rattle.limits.specs.Limits.{cardMemoryBytes, codeCount, contextsLength, factsLength, fileBytes, headsLength, maxDefinitions, ordersLength}
+use Rattle.limits.specs.Limits.{cardMemoryBytes, fileBytes, maxDefinitions}
+use Rattle.limits.specs.Sizes.{codeCount, contextsLength, factsLength, headsLength, ordersLength}
+use Rattle.theory.proofs.Lists.{or-true}
 use Rattle.rules.specs.Bytes.{isEmpty}
 use Rattle.rules.specs.Listing.{listing, listingOf}
 use Rattle.rules.specs.Run.{checked, judgeFile, overwrite, refusal}
@@ -43,10 +45,6 @@ reply-listed file v c refs words declared (Accepted n) some fits x =
     ∙ text-listed v c (x .state) words (declarationsOf (x .fields)) (s .holds) (s .within) (s .forms)
     ∙ ap listing (sym (fields-checked file (replicate cardMemoryBytes 0) enough some fits ∙ x .accepted))
 reply-listed file v c refs words declared (Refused k p) some fits x = ap listing (sym (fields-checked file (replicate cardMemoryBytes 0) enough some fits ∙ x))
-
-or-true : (b : Bool) → (b || true) ≡ true
-or-true true = refl
-or-true false = refl
 
 -- "file empty or over its limit"
 pub empty-listed : (file : List ℕ) → length file ≡ 0 → refusalText 2 0 ≡ listingOf file

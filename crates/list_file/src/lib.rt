@@ -3,7 +3,8 @@ ghost use mathlib.Core.Bool.{false};
 ghost use mathlib.Core.Path.{_≡_};
 ghost use Prim.Native.Nat.{_≤_};
 ghost use lib.ListN.{length};
-ghost use Rattle.limits.specs.Limits.{codeCount, fileBytes, maxDeclarations, maxDefinitions};
+ghost use Rattle.limits.specs.Limits.{fileBytes, maxDeclarations, maxDefinitions};
+ghost use Rattle.limits.specs.Sizes.{codeCount};
 ghost use Rattle.context.proofs.Adds.{empty};
 ghost use Rattle.context.specs.Store.{store};
 ghost use Rattle.levels.specs.Tables.{tableWords};
@@ -17,6 +18,7 @@ ghost use Rattle.list_file.specs.Replies.{replyText};
 use checker::Reply;
 use checker::judging::judge_fields;
 use limits::Limits;
+use lines::Room;
 use lines::write_listing;
 use lines::write_refusal;
 
@@ -105,8 +107,7 @@ fn list_fields(file: &[u8], out: &mut [u8]) -> usize
 }
 
 // The listing of a file at the front of out; every other byte stays. The answer is its length.
-pub fn list(file: &[u8], out: &mut [u8]) -> usize
-    requires { ⌜ textRoom ≤ length (now out) ⌝ }
+pub fn list(file: &[u8], out: &mut [u8; Room::TEXT]) -> usize
     ensures { λ r. ⌜ (now (out .exit) ≡ overwrite (listingOf (now (file .entry))) (now (out .entry))) × (r ≡ length (listingOf (now (file .entry)))) × (r ≤ textRoom) ⌝ }
 {
     if file.len() == 0 {

@@ -11,14 +11,15 @@ use Rattle.rules.specs.Run.{Outcome, overwrite, refusal}
 use Rattle.context.specs.Store.{Store, store}
 use Rattle.context.specs.declared.Counts.{Counts}
 use Rattle.judge_plain.specs.declared.Phase.the-variants.{Outside}
-use Rattle.asking.specs.Asks.{outcomeOf}
+use Rattle.asking.specs.Reply.{outcomeOf}
 use Rattle.asking.specs.declared.Asked.{Asked}
 use Rattle.checker.proofs.Answers.{memory-filled, reached-answer, refused-answer, short-answer, wrong-size-answer}
 use Rattle.checker.specs.Reply.{answer}
 use Rattle.checker.specs.Settles.{Concludes, wrongSize}
 use Rattle.checker.specs.declared.Reply as judged
 use Rattle.checker.specs.declared.Reply.{Reply}
-use Rattle.queries.specs.Question.{Answers, Value, alikeIn, alikeOutcome, bodyIn, bodyOutcome, levelIn, outcomeIn, replyOf}
+use Rattle.queries.specs.Question.{Answers, Value, alikeIn, bodyIn, levelIn, outcomeIn, replyOf}
+use Rattle.queries.specs.Reply.{alikeOutcome, bodyOutcome}
 use Rattle.queries.specs.Replies.{AfterJudging, Bounded, Replies}
 use Rattle.queries.specs.declared.AlikeReply.{AlikeReply}
 use Rattle.queries.specs.declared.BodyReply.{BodyReply}

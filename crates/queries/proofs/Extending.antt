@@ -17,10 +17,12 @@ use Rattle.checker.specs.Settles.{Concludes, wrongSize}
 use Rattle.checker.specs.declared.Reply as judged
 use Rattle.checker.specs.declared.Reply.{Reply}
 use Rattle.expanding.specs.Asks.{RepliesOf}
-use Rattle.expanding.specs.Reports.{Reports, outcomeOf}
+use Rattle.expanding.specs.Reply.{outcomeOf}
+use Rattle.expanding.specs.Reports.{Reports}
 use Rattle.expanding.specs.declared.Expanded.the-variants.{Length, Refused}
 use Rattle.expanding.specs.declared.Expanded.{Expanded}
-use Rattle.queries.specs.Expanding.{AfterExpanding, Expanding, expansionAnswer}
+use Rattle.queries.specs.Expanding.{AfterExpanding, Expanding}
+use Rattle.queries.specs.Reply.{expansionAnswer}
 
 -- what is replied and written, by the rules' outcome
 abbrev lengthOf : Outcome (List ℕ) → Outcome ℕ

@@ -3,7 +3,7 @@ use mathlib.Core.Bool.{Bool}
 use mathlib.Core.Path.{_≡_, ap, sym}
 use Prim.Native.Nat.{ℕ}
 use Rattle.rules.specs.Run.{refusal, result}
-use Rattle.asking.specs.Asks.{outcomeOf}
+use Rattle.asking.specs.Reply.{outcomeOf}
 use Rattle.asking.specs.declared.Asked as levels
 use Rattle.asking.specs.declared.Asked.{Asked}
 use Rattle.queries.specs.Question.{alikeIn, bodyIn, levelIn}

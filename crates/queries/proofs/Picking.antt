@@ -6,7 +6,8 @@ use mathlib.Core.Path.{_∙_, _≡_, ap, ap₂, sym}
 use Prim.Native.Nat.{ℕ, _+_, _*_, _≤_, _<_}
 use lib.Dec.{leb}
 use lib.ListN.{getD}
-use Rattle.limits.specs.Limits.{cardBytes, columnCount}
+use Rattle.limits.specs.Limits.{cardBytes}
+use Rattle.limits.specs.Sizes.{columnCount}
 use Rattle.context.specs.Store.{countAt, firstAt, kindAt}
 use Rattle.queries.specs.Replies.{alikeAt, bodyAt, likeAt, sameFrom}
 use Rattle.queries.specs.declared.Replied.the-variants.{Compared, Located, Refused}

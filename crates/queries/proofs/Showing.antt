@@ -19,7 +19,8 @@ use Rattle.context.specs.Store.{countAt, firstAt, kindAt, store}
 use Rattle.context.specs.declared.Counts.{Counts}
 use Rattle.judge_plain.specs.declared.Phase.{Phase}
 use Rattle.standing.specs.Standing.{Standing}
-use Rattle.asking.specs.Asks.{Asks, outcomeOf}
+use Rattle.asking.specs.Asks.{Asks}
+use Rattle.asking.specs.Reply.{outcomeOf}
 use Rattle.asking.specs.declared.Asked.{Asked}
 use Rattle.queries.specs.Question.{alikeIn, bodyIn, levelIn}
 use Rattle.queries.specs.Replies.{Replies, alikeAt, bodyAt, likeAt, sameFrom}

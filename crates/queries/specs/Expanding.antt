@@ -2,18 +2,15 @@
 use mathlib.Core.List.{List}
 use mathlib.Core.Path.{_≡_}
 use Prim.Native.Nat.{ℕ}
-use Rattle.rules.specs.Query.{ExpansionAnswer, expansionQuery}
-use Rattle.rules.specs.Run.{Outcome}
+use Rattle.rules.specs.Query.{expansionQuery}
 use Rattle.context.specs.declared.Counts.{Counts}
 use Rattle.checker.specs.declared.Reply as judged
 use Rattle.checker.specs.declared.Reply.{Reply}
 use Rattle.expanding.specs.Asks.{RepliesOf}
-use Rattle.expanding.specs.Reports.{outcomeOf}
+use Rattle.expanding.specs.Reply.{outcomeOf}
 use Rattle.expanding.specs.declared.Expanded.the-variants.{Refused}
 use Rattle.expanding.specs.declared.Expanded.{Expanded}
-
-abbrev pub expansionAnswer : Outcome ℕ → List ℕ → List ℕ → ExpansionAnswer
-expansionAnswer o memory output = record { reply = o; memory = memory; output = output }
+use Rattle.queries.specs.Reply.{expansionAnswer}
 
 -- the reply, the lent memory and the output after it are the rules'
 abbrev pub Expanding : List ℕ → List ℕ → ℕ → ℕ → List ℕ → List ℕ → Expanded → List ℕ → List ℕ → Type 0

@@ -1,3 +1,4 @@
+pub mod Reply
 pub mod Question
 pub mod Replies
 pub mod Expanding

@@ -1,4 +1,4 @@
--- "The answer is an enum; a definition gives its number and values": what each question asks of the rules, and what a reply to it says.
+-- What each question asks of the rules, and what a reply to it says. Definitions only.
 use mathlib.Core.Bool.{Bool}
 use mathlib.Core.List.{List}
 use mathlib.Core.Path.{_≡_}
@@ -7,10 +7,6 @@ use Rattle.rules.specs.Query.{alikeReply, bodyReply, levelReply}
 use Rattle.rules.specs.Run.{Outcome, afterCheck, refusal, result}
 use Rattle.rules.specs.State.{State}
 use Rattle.checker.specs.Reply.{answer}
-use Rattle.queries.specs.declared.AlikeReply as alikes
-use Rattle.queries.specs.declared.AlikeReply.{AlikeReply}
-use Rattle.queries.specs.declared.BodyReply as bodies
-use Rattle.queries.specs.declared.BodyReply.{BodyReply}
 use Rattle.queries.specs.declared.Question.the-variants.{Alike, Body, Level}
 use Rattle.queries.specs.declared.Question.{Question}
 use Rattle.queries.specs.declared.Replied.the-variants.{Compared, Levelled, Located, Refused}
@@ -55,12 +51,3 @@ outcomeIn (Body g) r = bodyIn r
 -- The reply to a question and the lent memory after it are the rules'.
 abbrev pub Answers : Question → List ℕ → List ℕ → List ℕ → List ℕ → Replied → List ℕ → Type 0
 Answers q file before expr levels r after = answer (outcomeIn q r) after ≡ afterCheck file before (replyOf q expr levels)
-
--- the answers of the public operations (that of the level query is asking's)
-abbrev pub alikeOutcome : AlikeReply → Outcome Bool
-alikeOutcome (alikes.the-variants.Alike b) = result b
-alikeOutcome (alikes.the-variants.Refused c p) = refusal c p
-
-abbrev pub bodyOutcome : BodyReply → Outcome (ℕ × ℕ)
-bodyOutcome (bodies.the-variants.Body a n) = result (a, n)
-bodyOutcome (bodies.the-variants.Refused c p) = refusal c p

@@ -1,10 +1,10 @@
-// "Expansion [of] an expression over 0 to 3 parameters at the end of a module": the file checked afresh, the lent card memory filled, and the
-// output written.
+// "Its expansion, ill-levelled or not, with its length": the file checked afresh, the lent card memory filled, and the output written.
 ghost use mathlib.Core.Bool.{false, true};
 ghost use mathlib.Core.Path.{_≡_};
 ghost use Prim.Native.Nat.{_≤_};
 ghost use lib.ListN.{length};
-ghost use Rattle.limits.specs.Limits.{cardMemoryBytes, codeCount, fileBytes, maxDeclarations, maxDefinitions};
+ghost use Rattle.limits.specs.Limits.{cardMemoryBytes, fileBytes, maxDeclarations, maxDefinitions};
+ghost use Rattle.limits.specs.Sizes.{codeCount};
 ghost use Rattle.context.proofs.Adds.{empty};
 ghost use Rattle.context.specs.Store.{store};
 ghost use Rattle.levels.specs.Tables.{tableWords};

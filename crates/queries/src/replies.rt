@@ -4,7 +4,7 @@ ghost use Prim.Native.Nat.{_*_, _≤_, _<_};
 ghost use lib.ListN.{length};
 ghost use Rattle.limits.specs.Limits.{cardBytes, cardMemoryBytes, maxDefinitions, maxModules};
 ghost use Rattle.levels.specs.Tables.{tableWords};
-ghost use Rattle.asking.specs.Asks.{outcomeOf};
+ghost use Rattle.asking.specs.Reply.{outcomeOf};
 ghost use Rattle.queries.specs.Question.{levelIn};
 ghost use Rattle.queries.specs.Replies.{Replies, alikeAt, bodyAt, likeAt, sameFrom};
 use crate::Question;

@@ -6,7 +6,8 @@ use Prim.Native.Nat.{ℕ, _+_, _-_, _*_, _/_, _<_, _≤_}
 use native.Mathlib.Omega.{arith}
 use lib.Dec.{eqb, leb}
 use lib.ListN.{getD, length}
-use Rattle.limits.specs.Limits.{contextLength, maxArity, maxNesting, placeCount}
+use Rattle.limits.specs.Limits.{maxArity, maxNesting}
+use Rattle.limits.specs.Sizes.{contextLength, placeCount}
 use Rattle.tokens.specs.Expr.{Found, exprAt, found, none, several}
 use Rattle.tokens.specs.Fold.{Algebra, underOf}
 use Rattle.tokens.specs.Token.{argumentsOf, isToken, tokenAt, widthOf}

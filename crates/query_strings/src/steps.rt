@@ -3,7 +3,6 @@ ghost use mathlib.Core.Path.{_≡_};
 ghost use mathlib.Core.Bool.{true};
 ghost use Prim.Native.Nat.{_+_};
 ghost use Rattle.tokens.specs.Token.{isToken, tokenAt, widthOf};
-ghost use Rattle.resolve.specs.Walk.{numberOf};
 ghost use Rattle.query_strings.specs.Reads.{Joins, Over};
 use resolve::Ask;
 use resolve::Look;
@@ -37,14 +36,4 @@ pub fn join(a: Looked, b: Looked) -> Looked
     ensures { λ r. ⌜ Joins a b r ⌝ }
 {
     both(a, b)
-}
-
-// The number that a name was resolved to.
-pub fn number_of(l: Look) -> u16
-    ensures { λ r. ⌜ r ≡ numberOf l ⌝ }
-{
-    match l {
-        Look::Ref(number, _) => number,
-        Look::NoRef => 0,
-    }
 }

@@ -1,5 +1,2 @@
-pub mod Places
 pub mod Packing
 pub mod PackingExpansion
-pub mod Unpacking
-pub mod Demand3

@@ -3,28 +3,23 @@ use mathlib.Core.Bool.{Bool, cond}
 use mathlib.Core.List.{List}
 use mathlib.Core.Path.{_∙_, _≡_, ap, refl, subst, sym}
 use Prim.Native.Nat.{ℕ, _+_, _*_, _≤_}
-use native.Mathlib.Omega.{arith}
-use lib.ListN.{length}
 use Rattle.limits.specs.Limits.{fileBytes, maxDefinitions}
 use Rattle.rules.specs.Query.{alikeQuery, bodyQuery, levelQuery}
-use Rattle.rules.specs.Run.{Answer, Outcome, check, checked, refusal, result}
-use Rattle.laws.proofs.Checks.{by-fields}
-use Rattle.laws.proofs.FileRefusals.{andThen-refusal, file-place, not-refusal}
-use Rattle.laws.proofs.Replies.{andThen-result, result-injective}
-use Rattle.laws.proofs.Within.{within-file}
-use Rattle.asking.specs.Asks as levels
+use Rattle.rules.specs.Run.{Answer, Outcome, fileCheck, refusal, result}
+use Rattle.asking.specs.Reply as levels
 use Rattle.asking.specs.declared.Asked as asked
 use Rattle.asking.specs.declared.Asked.{Asked}
 use Rattle.checker.specs.Reply.{answer, answerOf, outcomeOf}
 use Rattle.checker.specs.declared.Reply as judged
 use Rattle.checker.specs.declared.Reply.{Reply}
-use Rattle.queries.specs.Question.{alikeOutcome, bodyOutcome}
+use Rattle.queries.specs.Reply.{alikeOutcome, bodyOutcome}
 use Rattle.queries.specs.declared.AlikeReply as alikes
 use Rattle.queries.specs.declared.AlikeReply.{AlikeReply}
 use Rattle.queries.specs.declared.BodyReply as bodies
 use Rattle.queries.specs.declared.BodyReply.{BodyReply}
-use Rattle.rafterclary.specs.Packed.{FewDefinitions, InFile, Packable, packed, packedSpan, packedTruth}
-use Rattle.rafterclary.proofs.Places.{alike-place, body-place, level-place, part-inside}
+use Rattle.demands.proofs.Places.{alike-place, body-place, check-place, definitions-few, level-place, part-inside}
+use Rattle.demands.specs.Packed.{packed, packedSpan, packedTruth}
+use Rattle.rafterclary.specs.Packable.{FewDefinitions, InFile, Packable}
 
 -- what is known of an outcome's result and of its place
 pub packable : {A : Type 0} (P : A → Type 0) (o : Outcome A) → ((a : A) → o ≡ result a → P a) → ((c p : ℕ) → o ≡ refusal c p → p ≤ fileBytes) → Packable P o
@@ -39,27 +34,17 @@ module _ {A : Type 0} (o : Outcome A) (after : List ℕ) (x : Answer A) (e : ans
   left = ap (λ (y : Answer A). y .memory) e
 
 -- CHECK
-pub definitions-few : (file memory : List ℕ) (n : ℕ) → check file memory .reply ≡ result n → n ≤ maxDefinitions
-definitions-few file memory n e =
-    andThen-result (checked file memory) (λ s. result (length (s .definitions))) n e λ s a i.
-    omega (arith, result-injective i, within-file file s (by-fields file memory s a) .definitions)
-
-pub check-place : (file memory : List ℕ) (c p : ℕ) → check file memory .reply ≡ refusal c p → p ≤ fileBytes
-check-place file memory c p e =
-    andThen-refusal (checked file memory) (λ s. result (length (s .definitions))) c p e (λ q. file-place file memory c p q)
-    (λ s a i. not-refusal (length (s .definitions)) c p i)
-
-module _ (file memory after : List ℕ) (r : Reply) (e : answerOf r after ≡ check file memory) where
+module _ (file memory after : List ℕ) (r : Reply) (e : answerOf r after ≡ fileCheck file memory) where
   pub check-packable : Packable FewDefinitions (outcomeOf r)
   check-packable =
-      packable FewDefinitions (outcomeOf r) (λ n q. definitions-few file memory n (sym (replied (outcomeOf r) after (check file memory) e) ∙ q))
-      (λ c p q. check-place file memory c p (sym (replied (outcomeOf r) after (check file memory) e) ∙ q))
+      packable FewDefinitions (outcomeOf r) (λ n q. definitions-few file memory n (sym (replied (outcomeOf r) after (fileCheck file memory) e) ∙ q))
+      (λ c p q. check-place file memory c p (sym (replied (outcomeOf r) after (fileCheck file memory) e) ∙ q))
 
-  pub check-packed : (n : ℕ) → n ≡ packed (outcomeOf r) → n ≡ packed (check file memory .reply)
-  check-packed n q = q ∙ ap packed (replied (outcomeOf r) after (check file memory) e)
+  pub check-packed : (n : ℕ) → n ≡ packed (outcomeOf r) → n ≡ packed (fileCheck file memory .reply)
+  check-packed n q = q ∙ ap packed (replied (outcomeOf r) after (fileCheck file memory) e)
 
-  pub check-left : after ≡ check file memory .memory
-  check-left = left (outcomeOf r) after (check file memory) e
+  pub check-left : after ≡ fileCheck file memory .memory
+  check-left = left (outcomeOf r) after (fileCheck file memory) e
 
 -- LEVEL
 module _ (file memory after : List ℕ) (m : ℕ) (ls bytes : List ℕ) (r : Asked) (e : answer (levels.outcomeOf r) after ≡ levelQuery file memory m ls bytes) where

@@ -5,13 +5,14 @@ use Prim.Native.Nat.{ℕ, _+_, _*_, _≤_}
 use Rattle.limits.specs.Limits.{expansionBytes, fileBytes}
 use Rattle.laws.proofs.Outputs.{output-written}
 use Rattle.rules.specs.Query.{ExpansionAnswer, expansionQuery}
-use Rattle.expanding.specs.Reports.{outcomeOf}
+use Rattle.expanding.specs.Reply.{outcomeOf}
 use Rattle.expanding.specs.declared.Expanded.the-variants.{Length, Refused}
 use Rattle.expanding.specs.declared.Expanded.{Expanded}
 use Rattle.queries.specs.Expanding.{Expanding}
-use Rattle.rafterclary.specs.Packed.{FewBytes, Packable, packed}
+use Rattle.demands.specs.Packed.{packed}
+use Rattle.rafterclary.specs.Packable.{FewBytes, Packable}
 use Rattle.rafterclary.proofs.Packing.{packable}
-use Rattle.rafterclary.proofs.Places.{expansion-place}
+use Rattle.demands.proofs.Places.{expansion-place}
 
 module _ (file memory : List ℕ) (m n : ℕ) (bytes output : List ℕ) (r : Expanded) (after written : List ℕ)
     (e : Expanding file memory m n bytes output r after written) where

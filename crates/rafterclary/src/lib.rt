@@ -3,13 +3,13 @@ ghost use mathlib.Core.Bool.{cond};
 ghost use mathlib.Core.Path.{_≡_};
 ghost use Prim.Native.Nat.{_+_, _*_, _≤_};
 ghost use Rattle.limits.specs.Limits.{expansionBytes, fileBytes, maxDefinitions};
-ghost use Rattle.rules.specs.Query.{alikeQuery, bodyQuery, expansionQuery, levelQuery};
-ghost use Rattle.rules.specs.Run.{check};
-ghost use Rattle.asking.specs.Asks as levels;
+ghost use Rattle.asking.specs.Reply as levels;
 ghost use Rattle.checker.specs.Reply.{outcomeOf};
-ghost use Rattle.expanding.specs.Reports as expansions;
-ghost use Rattle.queries.specs.Question.{alikeOutcome, bodyOutcome};
-ghost use Rattle.rafterclary.specs.Packed.{FewBytes, FewDefinitions, InFile, Packable, packed, packedSpan, packedTruth};
+ghost use Rattle.expanding.specs.Reply as expansions;
+ghost use Rattle.queries.specs.Reply.{alikeOutcome, bodyOutcome};
+ghost use Rattle.demands.specs.Archive.{alikeLeaves, alikeNumber, bodyLeaves, bodyNumber, checkLeaves, checkNumber, expandLeaves, expandNumber, expandWrites, levelLeaves, levelNumber};
+ghost use Rattle.demands.specs.Packed.{packed, packedSpan, packedTruth};
+ghost use Rattle.rafterclary.specs.Packable.{FewBytes, FewDefinitions, InFile, Packable};
 use asking::Asked;
 use checker::Reply;
 use checker::check;
@@ -116,7 +116,7 @@ fn pack_expansion(reply: Expanded) -> u32
 // Checks a file, and fills the lent card memory.
 #[no_mangle]
 pub extern "C" fn rafterclary_check(file: &[u8], cards: &mut [u8]) -> u32
-    ensures { λ r. ⌜ (r ≡ packed (check (now (file .entry)) (now (cards .entry)) .reply)) × (now (cards .exit) ≡ check (now (file .entry)) (now (cards .entry)) .memory) ⌝ }
+    ensures { λ r. ⌜ (r ≡ checkNumber (now (file .entry)) (now (cards .entry))) × (now (cards .exit) ≡ checkLeaves (now (file .entry)) (now (cards .entry))) ⌝ }
 {
     let reply = check(file, cards);
     pack(reply)
@@ -131,7 +131,7 @@ pub extern "C" fn rafterclary_level(
     expr: &[u8],
     levels: &[u8],
 ) -> u32
-    ensures { λ r. ⌜ (r ≡ packed (levelQuery (now (file .entry)) (now (cards .entry)) «module» (now (levels .entry)) (now (expr .entry)) .reply)) × (now (cards .exit) ≡ levelQuery (now (file .entry)) (now (cards .entry)) «module» (now (levels .entry)) (now (expr .entry)) .memory) ⌝ }
+    ensures { λ r. ⌜ (r ≡ levelNumber (now (file .entry)) (now (cards .entry)) «module» (now (levels .entry)) (now (expr .entry))) × (now (cards .exit) ≡ levelLeaves (now (file .entry)) (now (cards .entry)) «module» (now (levels .entry)) (now (expr .entry))) ⌝ }
 {
     let reply = level(file, cards, module, expr, levels);
     pack_level(reply)
@@ -140,7 +140,7 @@ pub extern "C" fn rafterclary_level(
 // Whether two definitions, given by their numbers, are alike.
 #[no_mangle]
 pub extern "C" fn rafterclary_alike(file: &[u8], cards: &mut [u8], a: u32, b: u32) -> u32
-    ensures { λ r. ⌜ (r ≡ packedTruth (alikeQuery (now (file .entry)) (now (cards .entry)) a b .reply)) × (now (cards .exit) ≡ alikeQuery (now (file .entry)) (now (cards .entry)) a b .memory) ⌝ }
+    ensures { λ r. ⌜ (r ≡ alikeNumber (now (file .entry)) (now (cards .entry)) a b) × (now (cards .exit) ≡ alikeLeaves (now (file .entry)) (now (cards .entry)) a b) ⌝ }
 {
     let reply = alike(file, cards, a, b);
     pack_alike(reply)
@@ -149,7 +149,7 @@ pub extern "C" fn rafterclary_alike(file: &[u8], cards: &mut [u8], a: u32, b: u3
 // The part of the file that holds the body of a definition, given by its number.
 #[no_mangle]
 pub extern "C" fn rafterclary_body(file: &[u8], cards: &mut [u8], d: u32) -> u64
-    ensures { λ r. ⌜ (r ≡ packedSpan (bodyQuery (now (file .entry)) (now (cards .entry)) d .reply)) × (now (cards .exit) ≡ bodyQuery (now (file .entry)) (now (cards .entry)) d .memory) ⌝ }
+    ensures { λ r. ⌜ (r ≡ bodyNumber (now (file .entry)) (now (cards .entry)) d) × (now (cards .exit) ≡ bodyLeaves (now (file .entry)) (now (cards .entry)) d) ⌝ }
 {
     let reply = body(file, cards, d);
     pack_body(reply)
@@ -165,7 +165,7 @@ pub extern "C" fn rafterclary_expand(
     params: u8,
     out: &mut [u8],
 ) -> u32
-    ensures { λ r. ⌜ (r ≡ packed (expansionQuery (now (file .entry)) (now (cards .entry)) «module» params (now (expr .entry)) (now (out .entry)) .reply)) × (now (cards .exit) ≡ expansionQuery (now (file .entry)) (now (cards .entry)) «module» params (now (expr .entry)) (now (out .entry)) .memory) × (now (out .exit) ≡ expansionQuery (now (file .entry)) (now (cards .entry)) «module» params (now (expr .entry)) (now (out .entry)) .output) ⌝ }
+    ensures { λ r. ⌜ (r ≡ expandNumber (now (file .entry)) (now (cards .entry)) «module» params (now (expr .entry)) (now (out .entry))) × (now (cards .exit) ≡ expandLeaves (now (file .entry)) (now (cards .entry)) «module» params (now (expr .entry)) (now (out .entry))) × (now (out .exit) ≡ expandWrites (now (file .entry)) (now (cards .entry)) «module» params (now (expr .entry)) (now (out .entry))) ⌝ }
 {
     let reply = expand(file, cards, module, expr, params, out);
     pack_expansion(reply)

@@ -4,7 +4,8 @@ use mathlib.Core.List.{List}
 use mathlib.Core.Path.{_≡_}
 use Prim.Native.Nat.{ℕ, _+_, _*_, _≤_, _<_}
 use lib.ListN.{getD}
-use Rattle.limits.specs.Limits.{columnCount, maxDeclarations, maxDefinitions}
+use Rattle.limits.specs.Limits.{maxDeclarations, maxDefinitions}
+use Rattle.limits.specs.Sizes.{columnCount}
 use Rattle.theory.specs.Lists.{numbersFrom}
 use Rattle.tokens.specs.declared.Token.{Token}
 use Rattle.tokens.specs.declared.Token.the-variants.{Parameter, Bound, Name, InstanceOperator, BuiltIn, Literal, NoToken}

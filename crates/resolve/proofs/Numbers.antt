@@ -9,7 +9,8 @@ use native.Mathlib.Omega.{arith}
 use lib.Dec.{ltb}
 use lib.ListN.{List·getD-append, getD, length, length-append, take}
 use lib.Seq.{getD-append-seam}
-use Rattle.limits.specs.Limits.{columnCount, factsLength, maxDeclarations, maxDefinitions, maxFields}
+use Rattle.limits.specs.Limits.{maxDeclarations, maxDefinitions}
+use Rattle.limits.specs.Sizes.{columnCount, factsLength, maxFields}
 use Rattle.theory.specs.Lists.{All, _∷?_, collect}
 use Rattle.theory.specs.Term.{Kind}
 use Rattle.theory.proofs.Lists.{append-all, at-all, map-all, none-some}

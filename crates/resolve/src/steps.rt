@@ -22,7 +22,8 @@ fn either(a: bool, b: bool) -> bool
     if a { true } else { b }
 }
 
-fn is_name(t: Token) -> bool
+// Whether a token is a name, alone or after an instance's.
+pub fn is_name(t: Token) -> bool
     ensures { λ r. ⌜ r ≡ isName t ⌝ }
 {
     match t {
@@ -36,7 +37,8 @@ fn is_name(t: Token) -> bool
     }
 }
 
-fn number_of(l: Look) -> u16
+// The number that a name was resolved to.
+pub fn number_of(l: Look) -> u16
     ensures { λ r. ⌜ r ≡ numberOf l ⌝ }
 {
     match l {
@@ -45,7 +47,8 @@ fn number_of(l: Look) -> u16
     }
 }
 
-fn is_no_ref(l: Look) -> bool
+// Whether it means nothing.
+pub fn is_no_ref(l: Look) -> bool
     ensures { λ r. ⌜ r ≡ isNoRef l ⌝ }
 {
     match l {
@@ -55,7 +58,7 @@ fn is_no_ref(l: Look) -> bool
 }
 
 // Cause 10 at a name with k arguments written.
-fn wrong_count(k: u8, l: Look) -> bool
+pub fn wrong_count(k: u8, l: Look) -> bool
     ensures { λ r. ⌜ r ≡ wrongCount k l ⌝ }
 {
     match l {

@@ -10,11 +10,12 @@ use native.Mathlib.Nat.{zero-add}
 use native.Mathlib.Omega.{arith}
 use lib.ListN.{List·getD-append, getD, length, length-append, length-map, length-set, set}
 use lib.Seq.{getD-at, getD-set-other, getD-set-same}
-use Rattle.limits.specs.Limits.{codeCount, columnCount, fileBytes, maxArity, maxDeclarations, maxDefinitions, maxFields}
+use Rattle.limits.specs.Limits.{fileBytes, maxArity, maxDeclarations, maxDefinitions}
+use Rattle.limits.specs.Sizes.{codeCount, columnCount, maxFields}
 use Rattle.theory.specs.Expand.{Definition, cards, own, summariesFrom, summaryOf, templatesFrom}
 use Rattle.theory.specs.Lists.{All, _∷?_}
 use Rattle.theory.specs.Term.{Kind, constant, declaredLevel, kindArity, longWay, variable}
-use Rattle.theory.proofs.Levels.{IsLevel}
+use Rattle.theory.specs.Level.{IsLevel}
 use Rattle.theory.proofs.Lists.{none-some, or-false}
 use Rattle.rules.specs.Add.{add}
 use Rattle.rules.specs.Expression.{Expression, overArity}

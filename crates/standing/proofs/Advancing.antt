@@ -5,7 +5,8 @@ use mathlib.Core.Path.{_∙_, _≡_, ap, refl, subst, sym}
 use Prim.Native.Nat.{ℕ, _+_, _*_, _≤_, _<_}
 use native.Mathlib.Omega.{arith}
 use lib.ListN.{getD, length, length-append}
-use Rattle.limits.specs.Limits.{fileBytes, maxDeclarations, maxDefinitions, maxFields, shortestFieldBytes, shortestPayloadBytes}
+use Rattle.limits.specs.Limits.{fileBytes, maxDeclarations, maxDefinitions}
+use Rattle.limits.specs.Sizes.{maxFields, shortestFieldBytes, shortestPayloadBytes}
 use Rattle.theory.specs.Lists.{_∷?_}
 use Rattle.theory.specs.Term.{Kind, constant, variable}
 use Rattle.theory.proofs.Lists.{none-some}

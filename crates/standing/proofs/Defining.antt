@@ -7,9 +7,10 @@ use Prim.Native.Nat.{ℕ, _+_, _*_, _<_}
 use native.Mathlib.Omega.{arith}
 use lib.ListN.{getD, length, length-append, set}
 use lib.Seq.{getD-at}
-use Rattle.limits.specs.Limits.{columnCount, fileBytes, maxDefinitions}
+use Rattle.limits.specs.Limits.{fileBytes, maxDefinitions}
+use Rattle.limits.specs.Sizes.{columnCount}
 use Rattle.theory.specs.Lists.{All}
-use Rattle.theory.proofs.Levels.{IsLevel}
+use Rattle.theory.specs.Level.{IsLevel}
 use Rattle.rules.specs.Add.{add, ownOne}
 use Rattle.rules.specs.Expression.{Expression}
 use Rattle.rules.specs.Field.{Field, definition}

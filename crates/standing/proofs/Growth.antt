@@ -9,7 +9,8 @@ use native.Mathlib.Omega.{arith}
 use lib.Dec.{eqb, ltb}
 use lib.ListN.{List·getD-append, getD, length, length-append, set}
 use lib.Seq.{getD-at, getD-set-other}
-use Rattle.limits.specs.Limits.{columnCount, maxDefinitions}
+use Rattle.limits.specs.Limits.{maxDefinitions}
+use Rattle.limits.specs.Sizes.{columnCount}
 use Rattle.theory.specs.Lists.{numbersFrom}
 use Rattle.theory.specs.Term.{constant, variable}
 use Rattle.theory.proofs.Lists.{never}

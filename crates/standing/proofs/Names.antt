@@ -9,7 +9,8 @@ use native.Mathlib.Nat.{add-zero}
 use native.Mathlib.Omega.{arith}
 use lib.Dec.{eqb, leb, ltb}
 use lib.ListN.{getD}
-use Rattle.limits.specs.Limits.{columnCount, maxDeclarations, maxDefinitions}
+use Rattle.limits.specs.Limits.{maxDeclarations, maxDefinitions}
+use Rattle.limits.specs.Sizes.{columnCount}
 use Rattle.theory.specs.Lists.{All, find}
 use Rattle.theory.proofs.Lists.{find-has, map-all, none-some}
 use Rattle.rules.specs.State.{State}

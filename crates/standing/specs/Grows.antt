@@ -3,7 +3,7 @@ use mathlib.Core.List.{List, _++_}
 use mathlib.Core.Path.{_≡_}
 use Prim.Native.Nat.{ℕ, _+_, _*_, _≤_, _<_}
 use lib.ListN.{getD}
-use Rattle.limits.specs.Limits.{columnCount}
+use Rattle.limits.specs.Sizes.{columnCount}
 use Rattle.context.specs.Holds.{Known}
 use Rattle.context.specs.Store.{Store, codesOf, orderOf}
 use Rattle.context.specs.declared.Counts.{Counts}

@@ -3,7 +3,8 @@ use mathlib.Core.List.{List, [], _∷_, _++_}
 use mathlib.Core.Path.{_≡_}
 use Prim.Native.Nat.{ℕ, _+_, _*_, _≤_, _<_}
 use lib.ListN.{getD, length}
-use Rattle.limits.specs.Limits.{codeCount, contextLength, contextsLength, factsLength, fileBytes, headsLength, maxArity, maxDeclarations, maxDefinitions, maxFields, maxModules, ordersLength, shortestFieldBytes, shortestPayloadBytes}
+use Rattle.limits.specs.Limits.{fileBytes, maxArity, maxDeclarations, maxDefinitions, maxModules}
+use Rattle.limits.specs.Sizes.{codeCount, contextLength, contextsLength, factsLength, headsLength, maxFields, ordersLength, shortestFieldBytes, shortestPayloadBytes}
 use Rattle.theory.specs.Lists.{numbersFrom}
 use Rattle.theory.specs.Term.{kindArity}
 use Rattle.rules.specs.Add.{add}

@@ -18,9 +18,8 @@ use Rattle.texts.proofs.Levels.{AllSay, AllsSay, TokenSays, headMeaning, level-
 use Rattle.texts.specs.Noted.{isName}
 use Rattle.texts.specs.Text.{Declarations, Scene, levels, named, noDeclaration, refHead, shown, tokenHead}
 use Rattle.theory.proofs.Form.{at}
-use Rattle.theory.proofs.Levels.{IsLevel}
+use Rattle.theory.specs.Level.{IsLevel, bindsIn}
 use Rattle.theory.specs.Expand.{aritiesOf}
-use Rattle.theory.specs.Level.{bindsIn}
 use Rattle.theory.specs.Lists.{All}
 use Rattle.theory.specs.Term.{Arities, Every, Everys, Fits, Term, WellFormed, binder, byCards, declared, declaredLevel, defined, eval, kindArity}
 use Rattle.theory.specs.Tree.{_▹_, count, mapTrees, node, ⟨⟩}

@@ -9,11 +9,10 @@ use Prim.Native.Nat.{_+_, _*_, _<_, _≤_, suc, ℕ}
 use Rattle.limits.specs.Limits.{maxArity, maxDeclarations, maxDefinitions, maxNesting}
 use Rattle.theory.proofs.Fusion.{Anything, anywhere}
 use Rattle.theory.proofs.Later.{every-weaken}
-use Rattle.theory.specs.Expand.{aritiesOf, itself, templates}
+use Rattle.theory.specs.Expand.{aritiesOf, itself, paramsFrom, templates}
 use Rattle.theory.specs.Lists.{All}
 use Rattle.theory.specs.Term.{Arities, Fits, Head, Kind, Reading, Term, WellFormed, bound, builtin, declared, defined, kindArity, leaf, param}
 use Rattle.theory.proofs.Substitution.{count-params}
-use Rattle.theory.specs.Expand.{paramsFrom}
 use Rattle.theory.specs.Tree.{count}
 use Rattle.rules.specs.State.{State, definitionAt, meanings, paramsOf, templatesOf}
 use Rattle.laws.proofs.Invariant.{arity-known}

@@ -17,7 +17,8 @@ use Rattle.theory.proofs.ExpandFirst.{length-evals}
 use Rattle.theory.proofs.Fusion.{no-scope}
 use Rattle.theory.proofs.Size.{sizes, sum}
 use Rattle.theory.specs.Level.{bindsIn, codeBinder, plain}
-use Rattle.theory.specs.Term.{Arities, Everys, Fits, Reading, Term, Terms, WellFormed, bound, builtin, declared, defined, eval, evals, leaf, literal, param, values, withDefined}
+use Rattle.theory.specs.Term.{Arities, Everys, Fits, Reading, Term, Terms, WellFormed, bound, builtin, declared, defined, eval, evals, leaf, literal, param, withDefined}
+use Rattle.theory.proofs.Values.{values}
 use Rattle.theory.specs.Tree.{_▹_, count, node, ⟨⟩}
 use Rattle.unfolding.proofs.Masks.{alone-index, mask-alone, mask-below, picked-one}
 use Rattle.unfolding.specs.Right.{Calling, SizeRight, picked}

@@ -12,7 +12,8 @@ use Prim.Native.Nat.{_+_, _-_, _<_, _≤_, suc, zero, ℕ}
 use Rattle.limits.specs.Limits.{maxDefinitions}
 use Rattle.theory.specs.Expand.{itself, paramsFrom}
 use Rattle.theory.specs.Level.{bindsIn, plain}
-use Rattle.theory.specs.Term.{Kind, Reading, Terms, declared, defined, eval, evals, kindArity, values, withDefined}
+use Rattle.theory.specs.Term.{Kind, Reading, Terms, declared, defined, eval, evals, kindArity, withDefined}
+use Rattle.theory.proofs.Values.{values}
 use Rattle.theory.specs.Tree.{_▹_, join, mapTrees, node, ⟨⟩}
 use Rattle.tokens.specs.Expr.{Expr, Exprs, Placed}
 use Rattle.tokens.specs.declared.Token.{Token}

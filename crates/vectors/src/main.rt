@@ -1,12 +1,10 @@
 // Prints the listings of many files: standard input holds them one after another, each a length of three bytes, most significant first, and
 // that many bytes. Ends where the input does, or at a length that is more than one over the limit of a file.
-ghost use Prim.Native.Nat.{_+_, _≤_};
-ghost use lib.ListN.{length};
-ghost use Rattle.lines.specs.Text.{textRoom};
+ghost use Prim.Native.Nat.{_≤_};
 use libc::STDIN_FILENO;
-use libc::STDOUT_FILENO;
 use lines::Room;
 use list_file::Input;
+use list_input::print_listing;
 
 fn wide(x: u8) -> usize
     ensures { λ r. ⌜ r ≤ 255 ⌝ }
@@ -25,9 +23,7 @@ fn next_length() -> usize {
 }
 
 // Reads one file and prints its listing; whether there was one.
-fn list_next(space: &mut [u8], out: &mut [u8]) -> bool
-    requires { ⌜ textRoom ≤ length (now out) ⌝ }
-{
+fn list_next(space: &mut [u8], text: &mut [u8; Room::TEXT]) -> bool {
     let size = next_length();
     if space.len() < size {
         return false;
@@ -37,22 +33,20 @@ fn list_next(space: &mut [u8], out: &mut [u8]) -> bool
     if got < size {
         return false;
     }
-    let n = list_file::list(file, out);
-    io::write_all(STDOUT_FILENO, &out[..n])
+    print_listing(file, text);
+    true
 }
 
 // A proved loop has to end, and nothing says that the input does: the turns are counted down from a number that no run uses up.
-fn list_all(space: &mut [u8], out: &mut [u8])
-    requires { ⌜ textRoom ≤ length (now out) ⌝ }
-{
+fn list_all(space: &mut [u8], text: &mut [u8; Room::TEXT]) {
     let mut turns = u64::MAX;
-    while turns > 0 && list_next(space, out) {
+    while turns > 0 && list_next(space, text) {
         turns -= 1;
     }
 }
 
 fn main() {
     let mut space = [0u8; Input::ROOM];
-    let mut out = [0u8; Room::TEXT];
-    list_all(&mut space, &mut out);
+    let mut text = [0u8; Room::TEXT];
+    list_all(&mut space, &mut text);
 }

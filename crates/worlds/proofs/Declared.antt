@@ -10,10 +10,11 @@ use lib.ListN.{List·getD-append, getD, length, length-map}
 use lib.Seq.{getD-append-add}
 use native.Mathlib.Omega.{arith}
 use Prim.Native.Nat.{_+_, _<_, suc, zero, ℕ}
-use Rattle.laws.proofs.Accept.{Clears, adds}
+use Rattle.laws.proofs.Accept.{Clears}
+use Rattle.laws.specs.Lawful.{adds}
 use Rattle.laws.proofs.Causes.{clear-field}
 use Rattle.laws.proofs.Names.{all-numbers}
-use Rattle.laws.proofs.Origins.{Among, Origins, here-in, in-more, no-fields, origins-add, source-in}
+use Rattle.laws.proofs.Origins.{Among, In as Declares, Origins, here-in, in-more, no-fields, origins-add, source-in}
 use Rattle.laws.proofs.Resolved.{kind-found}
 use Rattle.rules.specs.Add.{add, after, broughtEntries, extendedDefinitions, extendedModule, ownOne, withMore}
 use Rattle.rules.specs.Field.{Field, Substitution, assume, begin-module, declare-constant, declare-variable, definition, end-module, extends, instance, theorem}
@@ -31,7 +32,6 @@ use Rattle.worlds.proofs.Resolved.{resolve-mentions, substitute-mention
 use Rattle.worlds.proofs.Uses.{names-more, names-of}
 use Rattle.worlds.specs.Rows.{Row, bodyOf, broughtRow, broughtRows, linkOf, newRows, noRow, rowsAfter, rowsOf, sourceOf, textOf, worldOf}
 use Rattle.worlds.specs.World.{AllDeclared, AnyName, Declared, DeclaredBy, In, Link, Names, SubstitutesDeclared, World}
-use Rattle.laws.proofs.Origins.{In as Declares}
 
 -- more names declared at the outer end
 declared-more : (N N′ : Kind → ℕ → Type 0) → ((k : Kind) (x : ℕ) → N k x → N′ k x) → (w : World) (k : Kind) (x : ℕ) → Declared N w k x → Declared N′ w k x

@@ -6,7 +6,7 @@ use lib.Dec.{eqb, lit≤}
 use lib.ListN.{List·getD-append, getD, length, length-append}
 use native.Mathlib.Omega.{arith}
 use Prim.Native.Nat.{_+_, _<_, _≤_, suc, zero, ℕ}
-use Rattle.laws.proofs.Accept.{adds}
+use Rattle.laws.specs.Lawful.{adds}
 use Rattle.laws.proofs.Within.{Within, opened}
 use Rattle.rules.specs.Add.{add, after}
 use Rattle.rules.specs.Field.{Field, assume, begin-module, declare-constant, declare-variable, definition, end-module, extends, instance, theorem}

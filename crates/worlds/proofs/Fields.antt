@@ -5,7 +5,7 @@ use lib.ListN.{List·getD-map, getD, length, length-append, length-map}
 use lib.Seq.{getD-append-add}
 use native.Mathlib.Omega.{arith}
 use Prim.Native.Nat.{_+_, _<_, _≤_, suc, zero, ℕ}
-use Rattle.laws.proofs.Accept.{adds}
+use Rattle.laws.specs.Lawful.{adds}
 use Rattle.laws.proofs.Resolved.{Brings}
 use Rattle.rules.specs.Add.{add, after, broughtEntries, extendedModule, ownOne, underNames, withMore}
 use Rattle.rules.specs.Expression.{Expression}

@@ -17,7 +17,8 @@ use Rattle.rules.specs.Run.{judgeFile, result}
 use Rattle.rules.specs.State.{Added, State, cardLevel, meanings, noDefinition, paramsOf, start, templatesOf}
 use Rattle.theory.proofs.Demand3.{card-exact}
 use Rattle.theory.proofs.ExpandFirst.{Keeps}
-use Rattle.theory.proofs.Levels.{IsLevel, levels-kept}
+use Rattle.theory.proofs.Levels.{levels-kept}
+use Rattle.theory.specs.Level.{IsLevel}
 use Rattle.theory.proofs.Summary.{AllFormed, summarise-all, summary-good}
 use Rattle.theory.specs.Expand.{Definition, aritiesOf, bodyIn, brought, own, summariesFrom}
 use Rattle.theory.specs.Lists.{All}

@@ -20,7 +20,7 @@ use Rattle.rules.specs.Judge.{instanceMiscounted, instanceUnknown}
 use Rattle.rules.specs.State.{Added, State, cardLevel, meanings, paramsOf, templatesOf, zeros}
 use Rattle.theory.proofs.Demand3.{card-exact}
 use Rattle.theory.proofs.Later.{expand-later}
-use Rattle.theory.proofs.Levels.{IsLevel}
+use Rattle.theory.specs.Level.{IsLevel}
 use Rattle.theory.proofs.Lists.{map-all, replicate-all}
 use Rattle.theory.specs.Expand.{Definition, Template, aritiesOf, bodyIn, brought, expand, instantiate, noTemplate, templateOf}
 use Rattle.theory.specs.Lists.{All}

@@ -6,7 +6,7 @@ use lib.ListN.{List·getD-append, getD, length, length-append, length-map, take}
 use lib.Seq.{getD-append-add, take-append-le, take-append-seam}
 use native.Mathlib.Omega.{arith}
 use Prim.Native.Nat.{_<_, suc, zero, ℕ}
-use Rattle.laws.proofs.Accept.{adds}
+use Rattle.laws.specs.Lawful.{adds}
 use Rattle.rules.specs.Add.{add, ownOne}
 use Rattle.rules.specs.Expression.{Expression}
 use Rattle.rules.specs.Field.{Field, Substitution, assume, begin-module, declare-constant, declare-variable, definition, end-module, extends, instance, theorem}

@@ -10,7 +10,8 @@ use Rattle.theory.proofs.Fusion.{Looks, fusion}
 use Rattle.theory.proofs.Lists.{append-all, replicate-all}
 use Rattle.theory.specs.Level.{bindsIn, plain}
 use Rattle.theory.specs.Lists.{All}
-use Rattle.theory.specs.Term.{Arities, Every, Fits, Head, Kind, Reading, Term, Terms, WellFormed, binder, bound, builtin, declared, defined, eval, evals, kindArity, leaf, meaning, param, values}
+use Rattle.theory.specs.Term.{Arities, Every, Fits, Head, Kind, Reading, Term, Terms, WellFormed, binder, bound, builtin, declared, defined, eval, evals, kindArity, leaf, meaning, param}
+use Rattle.theory.proofs.Values.{values}
 use Rattle.theory.specs.Tree.{count, node}
 use Rattle.worlds.proofs.Uses.{every-both}
 use Rattle.worlds.specs.World.{AnyDefinition, HeadMentions, Names, withNames}

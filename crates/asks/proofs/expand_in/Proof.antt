@@ -12,31 +12,34 @@ mark-requires c κs = search needs
 mark-requires-2 : tie.Need-mark-requires-2
 mark-requires-2 c κs = search needs
 
-slice-relend-prefix-expand : tie.Need-slice-relend-prefix-expand
-slice-relend-prefix-expand c = search needs
+slice-relend-prefix-rafterclary-expand : tie.Need-slice-relend-prefix-rafterclary-expand
+slice-relend-prefix-rafterclary-expand c = search needs
 
-slice-aggregate-expand : tie.Need-slice-aggregate-expand
-slice-aggregate-expand c =
+slice-aggregate-rafterclary-expand : tie.Need-slice-aggregate-rafterclary-expand
+slice-aggregate-rafterclary-expand c =
     sym (length-take-le (c .before .before .before .before .before .before .before .before .before .before .before .before .before .args .lent) (c .before .before .before .before .before .before .before .mark .last .0) (omega (arith, c .before .before .before .before .before .before .before .mark .kept)))
 
-cast-expand : tie.Need-cast-expand
-cast-expand c = search needs
+cast-rafterclary-expand : tie.Need-cast-rafterclary-expand
+cast-rafterclary-expand c = search needs
 
-cast-expand-2 : tie.Need-cast-expand-2
-cast-expand-2 c = search needs
+cast-rafterclary-expand-2 : tie.Need-cast-rafterclary-expand-2
+cast-rafterclary-expand-2 c = search needs
 
-slice-relend-prefix-expand-2 : tie.Need-slice-relend-prefix-expand-2
-slice-relend-prefix-expand-2 c = search needs
+slice-relend-prefix-rafterclary-expand-2 : tie.Need-slice-relend-prefix-rafterclary-expand-2
+slice-relend-prefix-rafterclary-expand-2 c = search needs
 
-slice-aggregate-expand-2 : tie.Need-slice-aggregate-expand-2
-slice-aggregate-expand-2 c =
+slice-aggregate-rafterclary-expand-2 : tie.Need-slice-aggregate-rafterclary-expand-2
+slice-aggregate-rafterclary-expand-2 c =
     sym (length-take-le (c .before .before .before .before .before .before .before .before .before .before .before .before .before .before .args .room) (c .before .before .before .before .mark2 .last .0) (omega (arith, c .before .before .before .before .mark2 .kept)))
 
-expand-requires : tie.Need-expand-requires
-expand-requires c κs = search needs
+rafterclary-expand-requires : tie.Need-rafterclary-expand-requires
+rafterclary-expand-requires c κs = search needs
 
-print-expanded-requires : tie.Need-print-expanded-requires
-print-expanded-requires c κs = search needs
+unpack-requires : tie.Need-unpack-requires
+unpack-requires c κs = search needs
+
+print-reply-requires : tie.Need-print-reply-requires
+print-reply-requires c κs = search needs
 
 slice-aggregate-print-number : tie.Need-slice-aggregate-print-number
 slice-aggregate-print-number c = search needs
@@ -74,14 +77,15 @@ expand-in-spec =
     (tie.spec
     mark-requires
     mark-requires-2
-    slice-relend-prefix-expand
-    slice-aggregate-expand
-    cast-expand
-    cast-expand-2
-    slice-relend-prefix-expand-2
-    slice-aggregate-expand-2
-    expand-requires
-    print-expanded-requires
+    slice-relend-prefix-rafterclary-expand
+    slice-aggregate-rafterclary-expand
+    cast-rafterclary-expand
+    cast-rafterclary-expand-2
+    slice-relend-prefix-rafterclary-expand-2
+    slice-aggregate-rafterclary-expand-2
+    rafterclary-expand-requires
+    unpack-requires
+    print-reply-requires
     slice-aggregate-print-number
     checksum-requires
     print-number-requires

@@ -9,15 +9,18 @@ use Rattle.checks.proofs.check_in.Tie as tie
 mark-requires : tie.Need-mark-requires
 mark-requires c κs = search needs
 
-slice-relend-prefix-check : tie.Need-slice-relend-prefix-check
-slice-relend-prefix-check c = search needs
+slice-relend-prefix-rafterclary-check : tie.Need-slice-relend-prefix-rafterclary-check
+slice-relend-prefix-rafterclary-check c = search needs
 
-slice-aggregate-check : tie.Need-slice-aggregate-check
-slice-aggregate-check c =
+slice-aggregate-rafterclary-check : tie.Need-slice-aggregate-rafterclary-check
+slice-aggregate-rafterclary-check c =
     sym (length-take-le (c .before .before .before .before .before .before .before .args .lent) (c .before .before .before .mark .last .0) (omega (arith, c .before .before .before .mark .kept)))
 
-check-requires : tie.Need-check-requires
-check-requires c κs = search needs
+rafterclary-check-requires : tie.Need-rafterclary-check-requires
+rafterclary-check-requires c κs = search needs
+
+unpack-requires : tie.Need-unpack-requires
+unpack-requires c κs = search needs
 
 print-reply-requires : tie.Need-print-reply-requires
 print-reply-requires c κs = search needs
@@ -45,9 +48,10 @@ check-in-spec =
     tie.close
     (tie.spec
     mark-requires
-    slice-relend-prefix-check
-    slice-aggregate-check
-    check-requires
+    slice-relend-prefix-rafterclary-check
+    slice-aggregate-rafterclary-check
+    rafterclary-check-requires
+    unpack-requires
     print-reply-requires
     checksum-requires
     print-decimal-requires

@@ -6,7 +6,8 @@ use Rattle.instancing.proofs.Brings.{bring-done, bring-turn, context-ro
 use Rattle.instancing.specs.Bringing.{bringAll}
 use Rattle.context.specs.Parts.{part}
 use Rattle.context.specs.Store.{contextSlot, orderSlot, store}
-use Rattle.limits.specs.Limits.{codeCount, contextLength, contextsLength, factsLength, headsLength, maxDefinitions, ordersLength}
+use Rattle.limits.specs.Limits.{maxDefinitions}
+use Rattle.limits.specs.Sizes.{codeCount, contextLength, contextsLength, factsLength, headsLength, ordersLength}
 use borrow.Author.Needs.{needs}
 use Rattle.instancing.proofs.bring_all.Statement.{statement}
 use Rattle.instancing.proofs.bring_all.Tie as tie

@@ -7,26 +7,17 @@ use Rattle.list_file.proofs.list.Tie as tie
 write-refusal-requires : tie.Need-write-refusal-requires
 write-refusal-requires c κs = search needs
 
-same-length : tie.Need-same-length
-same-length c = search needs
-
 returns : tie.Need-returns
-returns c = front-as _ _ _ _ _ (c .before .before .write-refusal .ensures) (empty-listed (c .before .before .before .before .before .before .before .args .file .now) (c .before .before .before .before .if1 .taken))
+returns c = front-as _ _ _ _ _ (c .write-refusal .ensures) (empty-listed (c .before .before .before .before .args .file .now) (c .before .before .if1 .taken))
 
 write-refusal-requires-2 : tie.Need-write-refusal-requires-2
 write-refusal-requires-2 c κs = search needs
 
-same-length-2 : tie.Need-same-length-2
-same-length-2 c = search needs
-
 returns-2 : tie.Need-returns-2
-returns-2 c = front-as _ _ _ _ _ (c .before .before .write-refusal2 .ensures) (long-listed (c .before .before .before .before .before .before .before .before .args .file .now) (c .before .before .before .before .if2 .taken))
+returns-2 c = front-as _ _ _ _ _ (c .write-refusal2 .ensures) (long-listed (c .before .before .before .before .before .args .file .now) (c .before .before .if2 .taken))
 
 list-fields-requires : tie.Need-list-fields-requires
-list-fields-requires c κs = (search needs, search some-bytes, search needs, λ i. c .before .before .before .before .shared-slice-known .given i .fits)
-
-same-length-3 : tie.Need-same-length-3
-same-length-3 c = search needs
+list-fields-requires c κs = (search needs, search some-bytes, search needs, λ i. c .before .before .before .shared-slice-known .given i .fits)
 
 returns-3 : tie.Need-returns-3
 returns-3 c = search needs
@@ -36,11 +27,8 @@ list-spec =
     tie.close
     (tie.spec
     write-refusal-requires
-    same-length
     returns
     write-refusal-requires-2
-    same-length-2
     returns-2
     list-fields-requires
-    same-length-3
     returns-3)

@@ -1,7 +1,6 @@
--- `list_next`: what is read and what is printed are within their memories.
+-- `list_next`: what is read is within the memory.
 use lib.Seq.{length-take-le}
 use mathlib.Core.Path.{sym}
-use native.Mathlib.Omega.{arith}
 use borrow.Author.Needs.{needs}
 use Rattle.vectors.proofs.list_next.Statement.{statement}
 use Rattle.vectors.proofs.list_next.Tie as tie
@@ -16,7 +15,7 @@ slice-relend-prefix-file : tie.Need-slice-relend-prefix-file
 slice-relend-prefix-file c = search needs
 
 slice-aggregate-file : tie.Need-slice-aggregate-file
-slice-aggregate-file c = sym (length-take-le (c .before .before .next-length .result) (c .before .before .before .before .before .args .space .now) (search needs))
+slice-aggregate-file c = sym (length-take-le (c .before .before .next-length .result) (c .before .before .before .before .args .space .now) (search needs))
 
 read-full-requires : tie.Need-read-full-requires
 read-full-requires c κs = search needs
@@ -27,23 +26,11 @@ same-length c = search needs
 returns-2 : tie.Need-returns-2
 returns-2 c = search needs
 
-list-requires : tie.Need-list-requires
-list-requires c κs = search needs
-
-slice-reshare-prefix-write-all : tie.Need-slice-reshare-prefix-write-all
-slice-reshare-prefix-write-all c = search needs
-
-slice-aggregate-write-all : tie.Need-slice-aggregate-write-all
-slice-aggregate-write-all c = sym (length-take-le (c .before .before .before .before .before .list .result) (c .before .before .before .before .before .list .last .1 .0) (omega (arith, c .before .before .before .before .before .list .kept)))
-
-write-all-requires : tie.Need-write-all-requires
-write-all-requires c κs = search needs
+print-listing-requires : tie.Need-print-listing-requires
+print-listing-requires c κs = search needs
 
 same-length-2 : tie.Need-same-length-2
 same-length-2 c = search needs
-
-same-length-3 : tie.Need-same-length-3
-same-length-3 c = search needs
 
 returns-3 : tie.Need-returns-3
 returns-3 c = search needs
@@ -59,10 +46,6 @@ list-next-spec =
     read-full-requires
     same-length
     returns-2
-    list-requires
-    slice-reshare-prefix-write-all
-    slice-aggregate-write-all
-    write-all-requires
+    print-listing-requires
     same-length-2
-    same-length-3
     returns-3)

@@ -397,7 +397,7 @@ fn long_text(to_the_left: bool) -> [Named; 2] {
 }
 
 /// An expression of so many bytes without any name.
-fn of_bytes(bytes: usize) -> Expr {
+pub fn of_bytes(bytes: usize) -> Expr {
     let leaves = (bytes + 2) / 5;
     let leaves = leaves - (bytes + 2 - 5 * leaves) % 2;
     let whole = tree(leaves, &|_| lit(1));

@@ -6,8 +6,10 @@
 //! of that memory. `vectors queries SAMPLES FOLDER`: the same with a query after each file, and of an
 //! expansion a sum over all of the output too.
 //! Numbers are three bytes, most significant first. The file `index` names them.
+//! `vectors input NAME FOLDER`: one input of the listing program, as it is, and the reference's listing.
 
 mod expansions;
+mod inputs;
 mod long;
 mod queries;
 
@@ -257,6 +259,9 @@ impl Stored {
     fn write(&self, folder: &Path) -> io::Result<()> {
         fs::write(folder.join("stdin"), &self.input)?;
         fs::write(folder.join("stdout"), &self.output)?;
+        if self.index.is_empty() {
+            return Ok(());
+        }
         fs::write(folder.join("index"), &self.index)
     }
 }
@@ -298,7 +303,18 @@ fn asked(samples: &Path) -> io::Result<Stored> {
     Ok(stored)
 }
 
-const USAGE: &str = "vectors listings|checks|queries SAMPLES FOLDER";
+/// A single input needs no index.
+fn single(name: &str) -> io::Result<Stored> {
+    let input = inputs::input(name).ok_or(io::ErrorKind::NotFound)?;
+    Ok(Stored {
+        output: listing(&input),
+        input,
+        ..Stored::default()
+    })
+}
+
+const USAGE: &str = "vectors listings|checks|queries SAMPLES FOLDER
+vectors input full|long|refused|nothing FOLDER";
 
 fn main() -> ExitCode {
     let given: Vec<_> = env::args().skip(1).collect();
@@ -306,6 +322,7 @@ fn main() -> ExitCode {
         ["listings", samples, _] => listings(Path::new(samples)),
         ["checks", samples, _] => checks(Path::new(samples)),
         ["queries", samples, _] => asked(Path::new(samples)),
+        ["input", name, _] => single(name),
         _ => {
             eprintln!("{USAGE}");
             return ExitCode::from(2);

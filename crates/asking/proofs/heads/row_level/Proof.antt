@@ -7,8 +7,8 @@ use Rattle.asking.proofs.heads.row_level.Tie as tie
 result-requires : tie.Need-result-requires
 result-requires c κs = search needs
 
-highest-requires : tie.Need-highest-requires
-highest-requires c κs = search needs
+highest-of-requires : tie.Need-highest-of-requires
+highest-of-requires c κs = search needs
 
 returns : tie.Need-returns
 returns c = search row-is-highest
@@ -30,7 +30,7 @@ row-level-spec =
     tie.close
     (tie.spec
     result-requires
-    highest-requires
+    highest-of-requires
     returns
     all-taken-requires
     capped-requires

@@ -11,8 +11,8 @@ levels-above-requires c κs = search needs
 passes-requires : tie.Need-passes-requires
 passes-requires c κs = search needs
 
-pick-requires : tie.Need-pick-requires
-pick-requires c κs = search needs
+highest-in-requires : tie.Need-highest-in-requires
+highest-in-requires c κs = search needs
 
 larger-requires : tie.Need-larger-requires
 larger-requires c κs = search needs
@@ -21,7 +21,7 @@ capped-requires : tie.Need-capped-requires
 capped-requires c κs = search needs
 
 returns : tie.Need-returns
-returns c = level-true (c .before .before .before .before .before .before .before .args .f) (c .before .before .before .before .before .before .before .args .v .now) _ _ _ (sym (c .before .before .before .before .passes .ensures _ (c .before .before .before .before .before .levels-above .ensures)) ∙ c .before .before .before .if1 .taken) (c .before .before .pick .ensures _ (c .before .before .before .before .before .levels-above .ensures)) (c .before .larger .ensures) (c .capped .ensures)
+returns c = level-true (c .before .before .before .before .before .before .before .args .f) (c .before .before .before .before .before .before .before .args .v .now) _ _ _ (sym (c .before .before .before .before .passes .ensures _ (c .before .before .before .before .before .levels-above .ensures)) ∙ c .before .before .before .if1 .taken) (c .before .before .highest-in .ensures _ (c .before .before .before .before .before .levels-above .ensures)) (c .before .larger .ensures) (c .capped .ensures)
 
 returns-2 : tie.Need-returns-2
 returns-2 c = level-false (c .before .before .before .before .args .f) (c .before .before .before .before .args .v .now) (sym (c .before .passes .ensures _ (c .before .before .levels-above .ensures)) ∙ c .if1 .left)
@@ -32,7 +32,7 @@ level-spec =
     (tie.spec
     levels-above-requires
     passes-requires
-    pick-requires
+    highest-in-requires
     larger-requires
     capped-requires
     returns

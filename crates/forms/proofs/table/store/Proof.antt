@@ -19,14 +19,14 @@ Inv-loop t₀ g w at j₀ t j = (j ≤ 4) × (length t ≡ length t₀) × (t �
 abbrev μ-loop : tie.MeasureT-loop
 μ-loop t₀ g w at j₀ t j = 4 - j
 
-words-requires : tie.Need-words-requires Inv-loop μ-loop
-words-requires c κs = search needs
+words-of-requires : tie.Need-words-of-requires Inv-loop μ-loop
+words-of-requires c κs = search needs
 
 mul-at : tie.Need-mul-at Inv-loop μ-loop
 mul-at c = search needs
 
 loop-holds : tie.Need-loop-holds Inv-loop μ-loop
-loop-holds c = (zero-le, refl, paste-zero (c .before .before .args .t .now) (c .before .before .args .g * 4) (c .words .result))
+loop-holds c = (zero-le, refl, paste-zero (c .before .before .args .t .now) (c .before .before .args .g * 4) (c .words-of .result))
 
 mul-x : tie.Need-mul-x Inv-loop μ-loop
 mul-x c = search needs
@@ -68,20 +68,20 @@ loop-again c = (
     g = c .before .before .before .before .args .g
 
     w : List ℕ
-    w = c .before .before .words .result
+    w = c .before .before .words-of .result
 
     j : ℕ
     j = c .before .loop .j
 
     four : length w ≡ 4
-    four = ap length (c .before .before .words .ensures .0)
+    four = ap length (c .before .before .words-of .ensures .0)
 
 same-length : tie.Need-same-length Inv-loop μ-loop
 same-length c = c .before .loop .inv .1
 
 returns : tie.Need-returns Inv-loop μ-loop
 unfolding stored
-returns c = (whole, ap (λ (l : List ℕ). formAt l g) whole ∙ load-stored d g f (c .before .before .before .before .pre .0) (c .before .before .words .ensures .1) (c .before .before .before .before .pre .1))
+returns c = (whole, ap (λ (l : List ℕ). formAt l g) whole ∙ load-stored d g f (c .before .before .before .before .pre .0) (c .before .before .words-of .ensures .1) (c .before .before .before .before .pre .1))
   where
     d : List ℕ
     d = c .before .before .before .before .args .t .now
@@ -96,7 +96,7 @@ returns c = (whole, ap (λ (l : List ℕ). formAt l g) whole ∙ load-stored d g
     done = omega arith
 
     whole : c .before .loop .t ≡ stored d g f
-    whole = c .before .loop .inv .2 ∙ ap₂ (λ (w : List ℕ) (j : ℕ). paste d (g * 4) w j) (c .before .before .words .ensures .0) done
+    whole = c .before .loop .inv .2 ∙ ap₂ (λ (w : List ℕ) (j : ℕ). paste d (g * 4) w j) (c .before .before .words-of .ensures .0) done
 
 pub store-spec : {M : Type 1} → statement M
 store-spec =
@@ -104,7 +104,7 @@ store-spec =
     (tie.spec
     Inv-loop
     μ-loop
-    words-requires
+    words-of-requires
     mul-at
     loop-holds
     mul-x

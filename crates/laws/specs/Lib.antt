@@ -1,0 +1,7 @@
+-- Words about files, fields, queries and cards that the demands and the theorems are stated in.
+pub mod Lawful
+pub mod Refused
+pub mod Queries
+pub mod Cards
+pub mod Bodies
+pub mod Modules
