@@ -1,10 +1,12 @@
 /* The proved level checker, librafterclary.a (`rt staticlib rafterclary`).
  *
  * A slice is a pointer and a length; the pointer may be anything, but not null, where the length
- * is 0. Lent memory must not overlap what is only read, nor other lent memory. It is written only
- * as paper 01 says: the card memory, and of that the first 32,000 bytes at most, and the output of
- * an expansion, and of that its length. The tables of a call are on the native stack: 435 KB, of
- * a level query 699 KB, of an expansion 970 KB, and some tens of KB more for the calls themselves.
+ * is 0. Lent memory must not overlap what is only read, nor other lent memory, and while a call
+ * lasts no other thread may touch it, nor write what is read. It is written only as paper 01 says:
+ * the card memory, and of that the first 32,000 bytes at most, and the output of an expansion, and
+ * of that its length. The tables of a call are on the native stack: 435 KB, of a level query 699
+ * KB, of an expansion 970 KB, and some tens of KB more for the calls themselves. Of the C library
+ * the archive calls memcpy, memmove and memset, and nothing else.
  *
  * Every call checks the file afresh and fills the card memory, as a check does: an accepted
  * file's cards are there after a query too, whether it is answered or refused.
@@ -16,6 +18,10 @@
 
 #include <stddef.h>
 #include <stdint.h>
+
+#if SIZE_MAX != UINT64_MAX
+#error "librafterclary.a is for x86-64: pointers and lengths of 8 bytes"
+#endif
 
 #ifdef __cplusplus
 extern "C" {

@@ -5,6 +5,9 @@
 
 use std::ops::Range;
 
+// The archive is for x86-64: pointers and lengths of 8 bytes.
+const _: () = assert!(usize::BITS == 64);
+
 mod linked {
     extern "C" {
         pub fn rafterclary_check(

@@ -1,0 +1,75 @@
+/* Calls every function of the archive through the header, on paper 01's example: one definition,
+ * p', of its own parameter. Exits with the number of the first line that does not hold, 0 if all
+ * do. */
+#include "rafterclary.h"
+
+#include <string.h>
+
+static const uint8_t example[] = {0x01, 0x00, 0x02, 0x00, 0x01, 0x04, 0x00, 0x02,
+                                  0x00, 0x02, 0x05, 0x00, 0x07, 0x00, 0x03, 0x01,
+                                  0x04, 0x70, 0x00, 0x00, 0x07, 0x00, 0x00};
+static uint8_t cards[RAFTERCLARY_CARD_MEMORY];
+static uint8_t out[RAFTERCLARY_EXPANSION];
+
+#define EXPECT(fact)                                                                               \
+    do {                                                                                           \
+        if (!(fact)) {                                                                             \
+            return __LINE__;                                                                       \
+        }                                                                                          \
+    } while (0)
+
+static int is_refusal(uint32_t reply, uint32_t number, uint32_t place) {
+    return RAFTERCLARY_IS_REFUSAL(reply) && RAFTERCLARY_NUMBER(reply) == number &&
+           RAFTERCLARY_PLACE(reply) == place;
+}
+
+static int checks(void) {
+    EXPECT(rafterclary_check(example, sizeof example, cards, sizeof cards) == 1);
+    EXPECT(cards[0] == 2 && cards[1] == 2 && cards[2] == 4 && cards[3] == 4 && cards[4] == 4 &&
+           cards[5] == 0);
+    EXPECT(
+        !RAFTERCLARY_IS_REFUSAL(rafterclary_check(example, sizeof example, cards, sizeof cards)));
+    EXPECT(is_refusal(rafterclary_check(example, 20, cards, sizeof cards), 4, 3));
+    EXPECT(is_refusal(rafterclary_check(example, sizeof example, cards, sizeof cards - 1), 1, 0));
+    return 0;
+}
+
+static int queries(void) {
+    static const uint8_t level_3[] = {3};
+    static const uint8_t parameter[] = {0, 0};
+    EXPECT(rafterclary_level(example, sizeof example, cards, sizeof cards, 1, parameter,
+                             sizeof parameter, level_3, 1) == 3);
+    EXPECT(is_refusal(rafterclary_level(example, sizeof example, cards, sizeof cards, 1, parameter,
+                                        sizeof parameter, level_3, 0),
+                      9, 4));
+    EXPECT(rafterclary_alike(example, sizeof example, cards, sizeof cards, 0, 0) == 1);
+    EXPECT(
+        is_refusal(rafterclary_alike(example, sizeof example, cards, sizeof cards, 0, 1), 17, 0));
+    uint64_t body = rafterclary_body(example, sizeof example, cards, sizeof cards, 0);
+    EXPECT(!RAFTERCLARY_BODY_IS_REFUSAL(body));
+    EXPECT(RAFTERCLARY_BODY_START(body) == 16 && RAFTERCLARY_BODY_LENGTH(body) == 4);
+    body = rafterclary_body(example, sizeof example, cards, sizeof cards, 1);
+    EXPECT(RAFTERCLARY_BODY_IS_REFUSAL(body));
+    EXPECT(RAFTERCLARY_BODY_NUMBER(body) == 17 && RAFTERCLARY_BODY_PLACE(body) == 0);
+    return 0;
+}
+
+static int expansions(void) {
+    static const uint8_t defined[] = {2, 0, 3, 1, 0, 2};
+    static const uint8_t expected[] = {4, 112, 0, 2};
+    EXPECT(rafterclary_expand(example, sizeof example, cards, sizeof cards, 1, defined,
+                              sizeof defined, 3, out, sizeof out) == 4);
+    EXPECT(memcmp(out, expected, sizeof expected) == 0 && out[4] == 0);
+    EXPECT(is_refusal(rafterclary_expand(example, sizeof example, cards, sizeof cards, 1, defined,
+                                         sizeof defined, 3, out, 3),
+                      18, 0));
+    return 0;
+}
+
+int main(void) {
+    int line = checks();
+    if (line == 0) {
+        line = queries();
+    }
+    return line == 0 ? expansions() : line;
+}
