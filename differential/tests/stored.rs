@@ -45,7 +45,18 @@ fn inputs_are_up_to_date() {
     }
 }
 
-/// A program of the gate is run once, so the listing program stands there five times: nothing but the
+/// The listing program's own run is on a sample; its expected output is the sample's listing.
+#[test]
+fn sample_is_up_to_date() {
+    let root = Path::new(env!("CARGO_MANIFEST_DIR")).join("..");
+    for (stored, sample) in [("stdin", "channel.bin"), ("stdout", "channel.listing")] {
+        let program = fs::read(root.join("crates/listing").join(stored)).expect("stored");
+        let sample = fs::read(root.join("samples").join(sample)).expect("a sample");
+        assert!(program == sample, "listing/{stored}");
+    }
+}
+
+/// A program of the gate is run once, so the listing program stands there six times: nothing but the
 /// comment in the first line may differ.
 #[test]
 fn one_listing_program() {
@@ -56,7 +67,7 @@ fn one_listing_program() {
         assert!(comment.starts_with("//"), "{name}");
         code.to_string()
     };
-    for input in INPUTS {
+    for input in INPUTS.into_iter().chain(["example"]) {
         let name = format!("listing_{input}");
         assert!(program(&name) == program("listing"), "{name}");
     }

@@ -5,19 +5,9 @@ use mathlib.Core.List.{List}
 use mathlib.Core.Path.{_∙_, _≡_, refl, sym}
 use Prim.Native.Nat.{ℕ}
 use lib.ListN.{length}
-use Rattle.tokens.specs.Expr.{wholeOf}
-use Rattle.asking.specs.Asks.{nameCause}
+use Rattle.asking.specs.Asks.{limitCause, nameCause}
 use Rattle.query_strings.specs.declared.Queried.{Queried}
-use Rattle.expanding.specs.Asks.{limitCause, readCause}
-
-module _ (expr : List ℕ) (a : Bool) (is-a : a ≡ wholeOf expr) where
-  pub limit-one : a ≡ true → 5 ≡ limitCause expr
-  unfolding limitCause
-  limit-one h = rw (sym is-a ∙ h) refl
-
-  pub limit-none : a ≡ false → 3 ≡ limitCause expr
-  unfolding limitCause
-  limit-none h = rw (sym is-a ∙ h) refl
+use Rattle.expanding.specs.Asks.{readCause}
 
 module _ (expr : List ℕ) (q : Queried) where
   pub cause-limit : q .kept ≡ false → (r : ℕ) → r ≡ limitCause expr → r ≡ readCause expr q

@@ -33,7 +33,7 @@ use Rattle.skimming.proofs.Keeping.{kept-passed}
 use Rattle.worlds.specs.Rows.{Row}
 use Rattle.judge_plain.specs.declared.Phase.{Phase}
 use Rattle.standing.specs.Standing.{Standing}
-use Rattle.asking.specs.Asks.{NamesAsked, nameCause}
+use Rattle.asking.specs.Asks.{NamesAsked, limitCause, nameCause}
 use Rattle.asking.proofs.Judging.{asked-right, limit-law}
 use Rattle.asking.proofs.Noting.{kept-asked}
 use Rattle.asking.proofs.Replies.{found-module, no-module, none-spelt}
@@ -41,7 +41,7 @@ use Rattle.templates.specs.Taking.{workBytes}
 use Rattle.query_strings.specs.Read.{QueryRead}
 use Rattle.query_strings.specs.declared.Queried.{Queried}
 use Rattle.expanding.proofs.Asked.{text, text-formed, text-found, text-low, text-term}
-use Rattle.expanding.specs.Asks.{RepliesIn, RepliesOf, RepliesTo, limitCause, readCause}
+use Rattle.expanding.specs.Asks.{RepliesIn, RepliesOf, RepliesTo, readCause}
 use Rattle.expanding.specs.Reports.{Reports}
 use Rattle.expanding.specs.declared.Expanded.{Expanded}
 use Rattle.expanding.specs.declared.Expanded.the-variants.{Refused}

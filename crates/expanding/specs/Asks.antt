@@ -26,15 +26,11 @@ use Rattle.spelling.specs.Written.{placeOf}
 use Rattle.worlds.specs.Rows.{Row}
 use Rattle.templates.specs.Shaped.{DefinitionsShaped}
 use Rattle.templates.specs.Taking.{workBytes}
-use Rattle.asking.specs.Asks.{nameCause}
+use Rattle.asking.specs.Asks.{limitCause, nameCause}
 use Rattle.query_strings.specs.Read.{QueryRead}
 use Rattle.query_strings.specs.declared.Queried.{Queried}
 use Rattle.expanding.specs.Reports.{Reports}
 use Rattle.expanding.specs.declared.Expanded.{Expanded}
-
--- the cause of a query that passes a limit: 5, or 3 if the bytes are not one expression
-unfoldable pub limitCause : List ℕ → ℕ
-limitCause expr = cond (wholeOf expr) 5 3
 
 -- the cause of an expression by what was read of it; 0 if none holds
 unfoldable pub readCause : List ℕ → Queried → ℕ

@@ -7,31 +7,21 @@ ghost use Rattle.context.specs.Store.{store};
 ghost use Rattle.templates.specs.Shaped.{DefinitionsShaped};
 ghost use Rattle.templates.specs.Taking.{workBytes};
 ghost use Rattle.tables.specs.Names.{Zeroed};
-ghost use Rattle.expanding.specs.Asks.{ReadReplies, RepliesIn, RepliesOf, limitCause, readCause};
+ghost use Rattle.expanding.specs.Asks.{ReadReplies, RepliesIn, RepliesOf, readCause};
 ghost use Rattle.expanding.specs.Held.{StringReplies};
 use crate::Expanded;
 use crate::output::put_out;
 use crate::passes::expansion;
+use asking::reading::limit_cause;
 use context::Counts;
 use context::lookup::find_module;
 use limits::Limits;
 use query_strings::Queried;
 use query_strings::query_string;
 use templates::shaping::shape_definitions;
-use tokens::whole;
 
 // A string longer than this belongs to an expansion longer than 65,535 bytes; the tables that an expression is read with are as long.
 const WORK_BYTES: usize = 131072;
-
-// The cause of a query that passes a limit.
-fn limit_cause(expr: &[u8]) -> u8
-    ensures { λ r. ⌜ r ≡ limitCause (now (expr .entry)) ⌝ }
-{
-    if whole(expr) {
-        return 5;
-    }
-    3
-}
 
 // Causes 3, 5, 9 and 10 of an expression, by what was read of it.
 fn read_cause(expr: &[u8], q: Queried) -> u8
