@@ -1,5 +1,5 @@
-// The columns of the table of built-in codes side by side in one lent table, for a walk that reads them at every token: a constant array is
-// laid out anew wherever it is read. A table of no entries serves too: what is past its end is worked out.
+// The columns of the table of built-in codes side by side in one lent table, for a walk that reads them at every token: `rows` decides over ranges
+// each time that it is asked. A table of no entries serves too: what is past its end is worked out.
 ghost use mathlib.Core.Path.{_≡_};
 ghost use Prim.Native.Nat.{_<_};
 ghost use lib.ListN.{length};
