@@ -1,6 +1,7 @@
 //! Damaged files: fields changed one by one, bytes changed, and bytes at random.
 
 use crate::random::Random;
+use crate::rows;
 use crate::syntax::{self, Expr, Field};
 
 /// Changes some fields of a file, each a little.
@@ -28,6 +29,19 @@ pub fn fields(random: &mut Random, fields: &[Field]) -> Vec<Field> {
         }
     }
     fields
+}
+
+/// Puts a code that there is not, beside one that there is, for a part of some expression, with as
+/// many arguments as its neighbour has.
+pub fn unknown_code(random: &mut Random, fields: &mut [Field], number: usize) {
+    let (code, arguments) = rows::BESIDE[number % rows::BESIDE.len()];
+    let expressions = fields.iter_mut().flat_map(Field::expressions_mut);
+    let mut expressions: Vec<&mut Expr> = expressions.collect();
+    if !expressions.is_empty() {
+        let at = random.below(expressions.len());
+        let part = random.below(expressions[at].size());
+        *expressions[at].part_mut(part) = syntax::op(code, &vec![syntax::lit(0); arguments]);
+    }
 }
 
 fn near(random: &mut Random, number: u16) -> u16 {

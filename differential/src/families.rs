@@ -20,6 +20,7 @@ pub struct Family {
 }
 
 /// Memory to lend, kept from call to call.
+#[derive(PartialEq)]
 pub struct Memory {
     cards: Vec<u8>,
     out: Vec<u8>,

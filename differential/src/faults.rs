@@ -589,7 +589,13 @@ impl<'a> Site<'a> {
             let part = self.random.below(expr.size());
             let part = expr.part_mut(part);
             *part = match choice {
-                5 => op(self.random.pick(&rows::unknown_codes()), &[]),
+                5 => {
+                    let (code, arguments) = match self.random.chance(50) {
+                        true => self.random.pick(&rows::BESIDE),
+                        false => (self.random.pick(&rows::unknown_codes()), 0),
+                    };
+                    op(code, &vec![lit(0); arguments])
+                }
                 6 => n(0, &[]),
                 _ => {
                     let (zero, other) = self.random.pick(&[(0, 1), (1, 0), (0, 0)]);

@@ -29,6 +29,10 @@ pub enum Fault {
     EnabledPlain,
     /// \EE is levelled like another binder.
     HidingPlain,
+    /// In a file, a code is taken for the one before it: across an edge of the table's ranges.
+    CodeBefore(u8),
+    /// In a file, a code is taken for the one after it.
+    CodeAfter(u8),
     /// A refusal leaves the cards as they were.
     CardsKept,
     /// A refusal leaves the last byte of the cards.
@@ -80,7 +84,7 @@ pub enum Fault {
 }
 
 /// Every fault with its name.
-pub const FAULTS: [(&str, Fault); 35] = [
+pub const FAULTS: [(&str, Fault); 43] = [
     ("place-next", Fault::PlaceNext),
     ("place-of-open-file", Fault::PlaceOfOpenFile),
     ("place-of-eighteen", Fault::PlaceOfEighteen),
@@ -92,6 +96,14 @@ pub const FAULTS: [(&str, Fault); 35] = [
     ("source-card", Fault::SourceCard),
     ("enabled-plain", Fault::EnabledPlain),
     ("hiding-plain", Fault::HidingPlain),
+    ("104-as-103", Fault::CodeBefore(104)),
+    ("103-as-104", Fault::CodeAfter(103)),
+    ("128-as-127", Fault::CodeBefore(128)),
+    ("127-as-128", Fault::CodeAfter(127)),
+    ("140-as-139", Fault::CodeBefore(140)),
+    ("139-as-140", Fault::CodeAfter(139)),
+    ("142-as-141", Fault::CodeBefore(142)),
+    ("141-as-142", Fault::CodeAfter(141)),
     ("cards-kept", Fault::CardsKept),
     ("zeroed-short", Fault::ZeroedShort),
     ("zeroed-beyond", Fault::ZeroedBeyond),
@@ -163,6 +175,18 @@ fn recoded(file: &[u8], from: u8, to: u8) -> Vec<u8> {
     written(&fields)
 }
 
+/// Puts a code for another after every byte that could be the tag of a built-in, whether or not the
+/// file can be read.
+fn taken_for(file: &[u8], from: u8, to: u8) -> Vec<u8> {
+    let mut seen = file.to_vec();
+    for at in 1..seen.len() {
+        if seen[at - 1..=at] == [4, from] {
+            seen[at] = to;
+        }
+    }
+    seen
+}
+
 impl Faulty {
     fn is(&self, fault: Fault) -> bool {
         self.0 == fault
@@ -173,6 +197,8 @@ impl Faulty {
         match self.0 {
             Fault::EnabledPlain => recoded(file, 113, 16),
             Fault::HidingPlain => recoded(file, 140, 128),
+            Fault::CodeBefore(code) => taken_for(file, code, code - 1),
+            Fault::CodeAfter(code) => taken_for(file, code, code + 1),
             _ => file.to_vec(),
         }
     }

@@ -27,6 +27,9 @@ pub fn unknown_codes() -> Vec<u8> {
     (0..=u8::MAX).filter(|&code| row(code).is_none()).collect()
 }
 
+/// Codes that do not exist, beside those that do, each with as many arguments as its neighbour.
+pub const BESIDE: [(u8, usize); 5] = [(104, 3), (111, 1), (126, 2), (127, 1), (142, 1)];
+
 /// The row of a code, if there is one.
 pub fn row(code: u8) -> Option<Row> {
     let make = |arguments, takes, gives, binds| {
@@ -72,5 +75,23 @@ impl Row {
         }
         let highest = levels.iter().copied().max().unwrap_or(0);
         self.gives.unwrap_or(highest)
+    }
+}
+
+#[cfg(test)]
+mod tests {
+    use super::*;
+
+    #[test]
+    fn codes_beside_are_unknown() {
+        let unknown = unknown_codes();
+        for (code, arguments) in BESIDE {
+            assert!(unknown.contains(&code), "code {code}");
+            let mut neighbours = [code - 1, code + 1].into_iter().filter_map(row);
+            assert!(
+                neighbours.any(|row| row.arguments == arguments),
+                "code {code}"
+            );
+        }
     }
 }

@@ -235,6 +235,11 @@ pub fn generate(seed: u64, number: u64) -> Generated {
                 ..plain(file)
             }
         }
+        18 if turn % 4 == 1 => {
+            let mut fields = accepted::grow(random, 100, 1).fields;
+            damage::unknown_code(random, &mut fields, turn / 4);
+            plain(syntax::file(&fields))
+        }
         18 => plain(damage::random_bytes(random)),
         _ => {
             // A file that was refused while another grew.

@@ -28,6 +28,8 @@ use std::{env, fs, io};
 struct Vector {
     label: String,
     file: Vec<u8>,
+    /// Whether a check of it is lent enough memory whatever its turn: the samples and those of codes.
+    whole: bool,
 }
 
 /// The files that some seeds give, the smallest first, each once.
@@ -56,6 +58,20 @@ fn table() -> Vec<u8> {
         Field::Definition(100 + code as u16, arity, op(code, &arguments))
     };
     module(&rows::codes().map(define).collect::<Vec<_>>())
+}
+
+/// Formulas of codes that there are not, most of them beside one that there is, with up to three
+/// arguments: none may be read as its neighbour.
+fn missing_codes() -> Vec<(String, Vec<u8>)> {
+    let with = |code: u8, arguments: usize| {
+        let file = module(&[Field::Theorem(op(code, &vec![lit(0); arguments]))]);
+        (format!("code {code}, arguments: {arguments}"), file)
+    };
+    let beside = rows::BESIDE.into_iter().map(|(code, _)| code);
+    beside
+        .chain([u8::MAX])
+        .flat_map(|code| (0..=3).map(move |arguments| with(code, arguments)))
+        .collect()
 }
 
 /// Bytes that are no field, after a module field: every way of being cut that a layout has.
@@ -141,10 +157,10 @@ fn instance_operators() -> Vec<(&'static str, Vec<u8>)> {
 }
 
 /// Every planned fault, both sides of every limit, every kind of substitute, cut fields, the table
-/// of codes, accepted files of several shapes, and the samples.
+/// of codes and those just outside it, accepted files of several shapes, and the samples.
 fn vectors(samples: &Path) -> io::Result<Vec<Vector>> {
     let mut all = Vec::new();
-    let mut add = |label: String, file| all.push(Vector { label, file });
+    let mut add = |label: String, file, whole| all.push(Vector { label, file, whole });
     for plan in faults::plans() {
         let keep = match plan {
             faults::Plan::Single(..) => 4,
@@ -152,29 +168,29 @@ fn vectors(samples: &Path) -> io::Result<Vec<Vector>> {
         };
         let files = built(40, |random| faults::build(plan, random).file);
         for file in files.into_iter().take(keep) {
-            add(plan.label(), file);
+            add(plan.label(), file, false);
         }
     }
     for (number, label) in limits::labels().into_iter().enumerate() {
         let mut files = built(8, |random| limits::build(number, random).file);
-        add(label, files.swap_remove(0));
+        add(label, files.swap_remove(0), false);
     }
     for (number, label) in substitutes::labels().into_iter().enumerate() {
         let mut files = built(4, |random| substitutes::build(number, random).file);
-        add(label, files.swap_remove(0));
+        add(label, files.swap_remove(0), false);
     }
     for (label, file) in cuts().into_iter().chain(instance_operators()) {
-        add(label.into(), file);
+        add(label.into(), file, false);
     }
-    add("every built-in code".into(), table());
+    add("every built-in code".into(), table(), true);
     for seed in 0..40 {
         let chain = accepted::grow_chain(&mut Random::new(seed)).bytes();
-        add(format!("a chain of instances, {seed}"), chain);
+        add(format!("a chain of instances, {seed}"), chain, false);
         let grown = accepted::grow(&mut Random::new(seed), 300, 1 + seed as usize % 8);
-        add(format!("accepted, {seed}"), grown.bytes());
+        add(format!("accepted, {seed}"), grown.bytes(), false);
     }
-    for (label, file) in sample_files(samples)? {
-        add(label, file);
+    for (label, file) in missing_codes().into_iter().chain(sample_files(samples)?) {
+        add(label, file, true);
     }
     Ok(all)
 }
@@ -201,6 +217,8 @@ fn three(number: usize) -> [u8; 3] {
 /// The memory that a check is lent a part of, and how much of it, in turn: at the limit, above it,
 /// and now and then below it.
 const MEMORY: usize = 40_000;
+/// The least that is enough.
+const CARDS: usize = 32_000;
 /// The output that an expansion is lent a part of: more than the longest takes.
 const OUTPUT: usize = 66_000;
 const LENT: [usize; 11] = [
@@ -268,7 +286,7 @@ impl Stored {
 
 fn listings(samples: &Path) -> io::Result<Stored> {
     let mut stored = Stored::default();
-    for (number, Vector { label, file }) in vectors(samples)?.iter().enumerate() {
+    for (number, Vector { label, file, .. }) in vectors(samples)?.iter().enumerate() {
         stored.file(file);
         let listing = String::from_utf8(listing(file)).expect("a listing is ASCII");
         stored.answer(number, label, file.len(), &listing);
@@ -278,12 +296,15 @@ fn listings(samples: &Path) -> io::Result<Stored> {
 
 fn checks(samples: &Path) -> io::Result<Stored> {
     let mut stored = Stored::default();
-    for (number, Vector { label, file }) in vectors(samples)?.iter().enumerate() {
+    for (number, Vector { label, file, whole }) in vectors(samples)?.iter().enumerate() {
         // With few exceptions files are small: the large ones are left to the listings.
         if file.len() > 2_000 && number % 16 != 0 {
             continue;
         }
-        let lent = LENT[number % LENT.len()];
+        let lent = match whole {
+            true => CARDS,
+            false => LENT[number % LENT.len()],
+        };
         stored.number(lent);
         stored.file(file);
         stored.answer(number, label, file.len(), &check_line(file, lent));

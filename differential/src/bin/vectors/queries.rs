@@ -222,6 +222,12 @@ fn rules() -> Vec<(&'static str, Call)> {
         ("a module that there is not", level(99, &x(), &[])),
         ("no module before layout", level_of(99, vec![], &[5])),
         ("the name of an operator", level(name::G, &x(), &[])),
+        // Codes at the edges of their ranges.
+        ("code 103", line(op(103, &[x(), lit(0), prime(x())]))),
+        ("code 128", line(op(128, &[prime(x())]))),
+        ("code 139", line(op(139, &[prime(x()), b(0)]))),
+        ("code 140", line(op(140, &[b(0)]))),
+        ("code 141", line(op(141, &[b(0)]))),
         // 3
         ("empty", bytes(&[])),
         ("cut", bytes(&[4, 49, 5, 0, 1])),
@@ -229,7 +235,20 @@ fn rules() -> Vec<(&'static str, Call)> {
         ("token 6", bytes(&[6])),
         ("code 104", bytes(&[4, 104])),
         ("code 126", bytes(&[4, 126])),
+        ("code 127", bytes(&[4, 127])),
         ("code 142", bytes(&[4, 142])),
+        ("code 255", bytes(&[4, 255])),
+        (
+            "code 104 with three arguments",
+            line(op(104, &[lit(0), lit(0), lit(0)])),
+        ),
+        ("code 111 with one argument", line(op(111, &[lit(0)]))),
+        (
+            "code 126 with two arguments",
+            line(op(126, &[lit(0), lit(0)])),
+        ),
+        ("code 127 with one argument", line(op(127, &[lit(0)]))),
+        ("code 142 with one argument", line(op(142, &[lit(0)]))),
         ("name 0", bytes(&[2, 0, 0, 0])),
         ("I!F, I named 0", bytes(&[3, 0, 0, 0, 8, 0])),
         ("I!F, F named 0", bytes(&[3, 0, 9, 0, 0, 0])),
