@@ -1,0 +1,138 @@
+//! Times two archives against each other: a few calls of one and as many of the other in turn, in
+//! the same process and memory, so that what else the machine does falls on both.
+//!
+//! `versus [--only LABEL] [--samples NUMBER]`: the families whose labels begin so.
+
+use differential::checker::Checker;
+use differential::families::{self, Family, Memory};
+use differential::proved::Proved;
+use std::process::ExitCode;
+use std::time::{Duration, Instant};
+
+/// The archive as it was, under other names: see build.rs.
+mod before {
+    #[allow(dead_code)]
+    pub mod bindings {
+        include!(concat!(env!("OUT_DIR"), "/bindings.rs"));
+    }
+    pub mod checker {
+        include!(concat!(env!("OUT_DIR"), "/checker.rs"));
+    }
+}
+
+const BEFORE: &dyn Checker = &before::checker::Proved;
+const NOW: &dyn Checker = &Proved;
+
+/// A sample is as many calls as take this long at least.
+const SAMPLE: Duration = Duration::from_millis(2);
+/// A family is sampled no longer than this, but a few times at least.
+const FAMILY: Duration = Duration::from_secs(3);
+const FEW: usize = 5;
+
+/// So many calls of a family.
+fn time(checker: &dyn Checker, family: &Family, memory: &mut Memory, calls: u32) -> Duration {
+    let start = Instant::now();
+    for _ in 0..calls {
+        std::hint::black_box(family.call(checker, memory));
+    }
+    start.elapsed()
+}
+
+/// How many calls make a sample.
+fn calls_of(family: &Family, memory: &mut Memory) -> u32 {
+    let mut calls = 1;
+    while time(NOW, family, memory, calls) < SAMPLE {
+        calls *= 2;
+    }
+    calls
+}
+
+/// Numbers in order, the middle one, and those a quarter from each end.
+fn quarters(mut numbers: Vec<f64>) -> [f64; 3] {
+    numbers.sort_by(f64::total_cmp);
+    let at = |part: usize| numbers[(numbers.len() - 1) * part / 4];
+    [at(1), at(2), at(3)]
+}
+
+/// One line of the table, and the ratio's middle.
+fn compare(family: &Family, samples: usize) -> f64 {
+    let mut memory = Memory::default();
+    let calls = calls_of(family, &mut memory);
+    let (mut was, mut is, mut ratios) = (Vec::new(), Vec::new(), Vec::new());
+    let start = Instant::now();
+    for sample in 0..samples {
+        if sample >= FEW && start.elapsed() > FAMILY {
+            break;
+        }
+        // Now one is the first, now the other.
+        let mut one = |checker| time(checker, family, &mut memory, calls).as_secs_f64();
+        let (before, now) = if sample % 2 == 0 {
+            let before = one(BEFORE);
+            (before, one(NOW))
+        } else {
+            let now = one(NOW);
+            (one(BEFORE), now)
+        };
+        was.push(before / f64::from(calls));
+        is.push(now / f64::from(calls));
+        ratios.push(now / before);
+    }
+    let microseconds = |times| quarters(times)[1] * 1e6;
+    let [low, ratio, high] = quarters(ratios);
+    println!(
+        "{:<66} {:>12.1} {:>12.1} {ratio:>7.3} ({low:.3} to {high:.3})",
+        family.label,
+        microseconds(was),
+        microseconds(is),
+    );
+    ratio
+}
+
+/// Whether both give the same reply, cards and output.
+fn agree(family: &Family) -> bool {
+    let seen = |checker| {
+        let mut memory = Memory::default();
+        let reply = family.call(checker, &mut memory);
+        (reply, memory)
+    };
+    seen(BEFORE) == seen(NOW)
+}
+
+fn main() -> ExitCode {
+    let mut only = String::new();
+    let mut samples = 40;
+    let mut words = std::env::args().skip(1);
+    while let Some(word) = words.next() {
+        match (word.as_str(), words.next()) {
+            ("--only", Some(label)) => only = label,
+            ("--samples", Some(number)) => samples = number.parse().expect("a number"),
+            _ => panic!("usage: versus [--only LABEL] [--samples NUMBER]"),
+        }
+    }
+    assert!(samples > 0, "no samples");
+    let mut all = families::usual();
+    all.extend(families::checks());
+    all.extend(families::queries(true));
+    all.retain(|family| family.label.starts_with(&only));
+    assert!(!all.is_empty(), "no family's label begins with {only}");
+
+    println!(
+        "{:<66} {:>12} {:>12} {:>7} (middle half)",
+        "microseconds of a call", "before", "now", "ratio"
+    );
+    let mut ratios = Vec::new();
+    for family in &all {
+        if !agree(family) {
+            println!("{}: the two differ", family.label);
+            return ExitCode::FAILURE;
+        }
+        ratios.push((compare(family, samples), &family.label));
+    }
+    ratios.sort_by(|a, b| a.0.total_cmp(&b.0));
+    let ((least, _), (most, label)) = (ratios[0], ratios[ratios.len() - 1]);
+    println!(
+        "{} families, reply and memory the same; ratios from {least:.3} to {most:.3} ({label})",
+        ratios.len()
+    );
+    ExitCode::SUCCESS
+}
