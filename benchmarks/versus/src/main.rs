@@ -121,18 +121,22 @@ fn main() -> ExitCode {
         "microseconds of a call", "before", "now", "ratio"
     );
     let mut ratios = Vec::new();
+    let mut differing = 0;
     for family in &all {
-        if !agree(family) {
-            println!("{}: the two differ", family.label);
-            return ExitCode::FAILURE;
-        }
         ratios.push((compare(family, samples), &family.label));
+        if !agree(family) {
+            differing += 1;
+            println!("    the two differ in reply or memory");
+        }
     }
     ratios.sort_by(|a, b| a.0.total_cmp(&b.0));
     let ((least, _), (most, label)) = (ratios[0], ratios[ratios.len() - 1]);
     println!(
-        "{} families, reply and memory the same; ratios from {least:.3} to {most:.3} ({label})",
+        "{} families, {differing} with another reply or memory; ratios from {least:.3} to {most:.3} ({label})",
         ratios.len()
     );
-    ExitCode::SUCCESS
+    match differing {
+        0 => ExitCode::SUCCESS,
+        _ => ExitCode::FAILURE,
+    }
 }
