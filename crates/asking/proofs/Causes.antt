@@ -9,6 +9,7 @@ use lib.ListN.{length}
 use Rattle.limits.specs.Limits.{levelCount, maxArity}
 use Rattle.theory.specs.Lists.{any}
 use Rattle.tokens.specs.Expr.{wholeOf}
+use Rattle.forms.specs.Forms.{levelAt}
 use Rattle.asking.specs.Asks.{keptReply, levelsCause, limitCause, replyOf}
 use Rattle.asking.specs.declared.Asked.{Asked}
 use Rattle.asking.specs.declared.Asked.the-variants.{Level, Refused}
@@ -38,28 +39,28 @@ module _ (levels expr : List ℕ) (b : Bool) (is-b : b ≡ any (λ l. leb levelC
     cause-none h = rw (sym is-b ∙ levels-right, le-ltb maxArity (length levels) h) refl
 
 -- the reply by what the walk found
-module _ (w : Walked) (fields : ℕ) where
-  pub reply-unknown : w .unknown ≡ true → Refused 9 fields ≡ keptReply w fields
+module _ (levels : List ℕ) (w : Walked) (fields : ℕ) where
+  pub reply-unknown : w .looked .unknown ≡ true → Refused 9 fields ≡ keptReply levels w fields
   unfolding keptReply
   reply-unknown u = rw u refl
 
-  pub reply-miscounted : w .unknown ≡ false → w .miscounted ≡ true → Refused 10 fields ≡ keptReply w fields
+  pub reply-miscounted : w .looked .unknown ≡ false → w .looked .miscounted ≡ true → Refused 10 fields ≡ keptReply levels w fields
   unfolding keptReply
   reply-miscounted u m = rw (u, m) refl
 
-  pub reply-right : w .unknown ≡ false → w .miscounted ≡ false → Level (w .level) ≡ keptReply w fields
+  pub reply-right : (l : ℕ) → w .looked .unknown ≡ false → w .looked .miscounted ≡ false → l ≡ levelAt (w .form) levels → Level l ≡ keptReply levels w fields
   unfolding keptReply
-  reply-right u m = rw (u, m) refl
+  reply-right l u m e = rw (u, m, e) refl
 
   module _ (expr : List ℕ) where
-    pub reply-limit : (c : ℕ) → w .kept ≡ false → c ≡ limitCause expr → Refused c fields ≡ replyOf expr w fields
+    pub reply-limit : (c : ℕ) → w .kept ≡ false → c ≡ limitCause expr → Refused c fields ≡ replyOf levels expr w fields
     unfolding replyOf
     reply-limit c h e = rw (h, e) refl
 
-    pub reply-kept : (r : Asked) → w .kept ≡ true → w .next ≡ length expr → r ≡ keptReply w fields → r ≡ replyOf expr w fields
+    pub reply-kept : (r : Asked) → w .kept ≡ true → w .looked .next ≡ length expr → r ≡ keptReply levels w fields → r ≡ replyOf levels expr w fields
     unfolding keptReply replyOf
-    reply-kept r h n e = rw (h, eq-eqb (w .next) (length expr) n) e
+    reply-kept r h n e = rw (h, eq-eqb (w .looked .next) (length expr) n) e
 
-    pub reply-left-over : w .kept ≡ true → (w .next ≡ length expr → ⊥) → Refused 3 fields ≡ replyOf expr w fields
+    pub reply-left-over : w .kept ≡ true → (w .looked .next ≡ length expr → ⊥) → Refused 3 fields ≡ replyOf levels expr w fields
     unfolding replyOf
-    reply-left-over h n = rw (h, ne-eqb (w .next) (length expr) n) refl
+    reply-left-over h n = rw (h, ne-eqb (w .looked .next) (length expr) n) refl

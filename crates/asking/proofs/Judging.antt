@@ -1,5 +1,5 @@
 -- A query's expression, judged at the end of an ended module: its causes and its level are those of the rules.
-use mathlib.Core.Bool.{Bool, cond, false, not, true}
+use mathlib.Core.Bool.{Bool, cond, false, true}
 use mathlib.Core.List.{List, [], _∷_}
 use mathlib.Core.Option.{Option, none, some}
 use mathlib.Core.Path.{_∙_, _≡_, ap, refl, subst, sym}
@@ -7,7 +7,7 @@ use Prim.Native.Nat.{ℕ, zero, suc, _+_, _-_, _<_, _≤_}
 use native.Mathlib.Omega.{arith}
 use borrow.Author.Tests.{le-ltb, leb-false, leb-true, ltb-false}
 use lib.Dec.{eqb, eqb→eq, leb, leb→le, ltb}
-use lib.ListN.{getD, length, length-replicate, replicate}
+use lib.ListN.{getD, length}
 use lib.Seq.{take-all}
 use Rattle.limits.specs.Limits.{maxArity, maxDefinitions, maxNesting}
 use Rattle.theory.specs.Expand.{aritiesOf}
@@ -23,8 +23,7 @@ use Rattle.rules.specs.State.{Context, Entry, State, broughtNamed, declares, de
 use Rattle.laws.proofs.Expressions.{expression-back}
 use Rattle.laws.proofs.Invariant.{clear-in}
 use Rattle.tokens.specs.Expr.{Expr, Exprs, Found, exprAt, found}
-use Rattle.tokens.specs.Fold.{Worth, fold}
-use Rattle.tokens.specs.Limit.{countsKept, keptOf, limitAt}
+use Rattle.tokens.specs.Limit.{keptOf, limitAt}
 use Rattle.tokens.specs.Token.{isToken, tokenAt}
 use Rattle.tokens.specs.declared.Limit.the-variants.{Kept, Passed}
 use Rattle.tokens.specs.declared.Token.{Token}
@@ -35,13 +34,12 @@ use Rattle.tokens.proofs.Writing.{Bytes}
 use Rattle.fields.specs.Substitution.{part}
 use Rattle.agree.specs.Trees.{AllTokens, AllTokensOf, asToken, asTree}
 use Rattle.agree.proofs.Expressions.{expression-in-file}
-use Rattle.agree.proofs.Limits.{counts-kept, limits-agree}
+use Rattle.agree.proofs.Limits.{limits-agree}
 use Rattle.agree.proofs.Tokens.{good-at}
 use Rattle.agree.proofs.Walks.{tokens-found}
-use Rattle.texts.specs.Noted.{noted}
-use Rattle.texts.specs.Text.{Declarations, levels, noDeclaration, refHead}
-use Rattle.texts.proofs.Spans.{Span, SpanOf, span-found}
-use Rattle.forms.specs.Forms.{width}
+use Rattle.texts.specs.Noted.{isName}
+use Rattle.texts.specs.Text.{Declarations, noDeclaration, refHead}
+use Rattle.forms.specs.Forms.{levelAt}
 use Rattle.context.specs.Holds.{moduleNo}
 use Rattle.context.specs.Store.{Store, codesOf}
 use Rattle.context.specs.declared.Counts.{Counts}
@@ -53,16 +51,16 @@ use Rattle.resolve.specs.declared.Look.the-variants.{Ref, NoRef}
 use Rattle.resolve.proofs.Law.{Right, instance-law, name-law, walk-law}
 use Rattle.resolve.proofs.Numbers.{declarationsOf, known-context}
 use Rattle.levels.specs.Tables.{sceneOf}
-use Rattle.levels.proofs.Agree.{six-levels}
-use Rattle.levels.proofs.Counted.{CountedAt, counted}
+use Rattle.levels.specs.Walk.{TextForm}
 use Rattle.text_levels.proofs.OwnWorld.{RefsBelow, Tokens, TokensAll, own-level}
 use Rattle.worlds.specs.Rows.{Row}
 use Rattle.judge_plain.specs.declared.Phase.{Phase}
 use Rattle.standing.specs.Standing.{Standing, itselves}
 use Rattle.skimming.specs.Kept.{isPassed}
 use Rattle.asking.specs.Asks.{NamesAsked}
-use Rattle.asking.specs.Walk.{askedLevels}
-use Rattle.asking.proofs.Noting.{Low, Reads, level-asked, noted-reads, reads-below}
+use Rattle.asking.specs.Walk.{namesIn, numbersIn}
+use Rattle.asking.proofs.Noting.{Low, Reads, noted-same, reads-below, table-length}
+use Rattle.asking.proofs.Stepping.{number-at-token}
 
 -- past its end a list has the default
 getD-past : {A : Type 0} (xs : List A) (i : ℕ) (d : A) → length xs ≤ i → getD xs i d ≡ d
@@ -158,31 +156,32 @@ module _ (file : List ℕ) (fs : List Field) (s : State) (rs : List Row) (v : St
   pub tree : (t : Expr) × (exprAt maxNesting expr 0 ≡ found t (0 + length expr)) × (asTree t ≡ e)
   tree = expression-in-file expr 0 (length expr) e (omega arith) in-part maxNesting deep
 
-  -- a table beside the bytes, in which each name would be noted
-  pub table : List ℕ
-  table = replicate (length expr) 0
-
-  pub table′ : List ℕ
-  table′ = noted look (tree .0) table
+  -- the table beside the bytes says what each name means
+  abbrev pub table : List ℕ
+  table = numbersIn (v .names) (v .facts) (codesOf v q) expr
 
   wide : 0 + length expr ≤ length table
-  unfolding table
-  wide = omega (arith, length-replicate {A = ℕ} (length expr) 0)
+  wide = omega (arith, table-length (v .names) (v .facts) (codesOf v q) expr)
 
-  looks : Looks (v .names) (v .facts) (codesOf v q) n 0 (exprAt maxNesting expr 0) table table′ (asked .unknown) (asked .miscounted) (asked .next)
-  unfolding Looks Notes table′
+  pub reads : Reads look table (tree .0)
+  reads =
+      tokens-found expr (λ i x. isName x ≡ true → getD table i 0 ≡ look x) maxNesting 0 (tree .0) (0 + length expr) (tree .1)
+      (λ i a b h _. number-at-token (v .names) (v .facts) (codesOf v q) expr i h)
+
+  looks : Looks (v .names) (v .facts) (codesOf v q) n 0 (exprAt maxNesting expr 0) table table (asked .unknown) (asked .miscounted) (asked .next)
+  unfolding Looks Notes
   looks =
       let a = asked .looks in (
         a .0,
         a .1,
-        subst (λ (f : Found). Notes (v .names) (v .facts) (codesOf v q) f table table′) (sym (tree .1)) refl,
+        subst (λ (f : Found). Notes (v .names) (v .facts) (codesOf v q) f table table) (sym (tree .1)) (sym (noted-same (tree .0) look table reads)),
       )
 
   -- the walk's answers are the rules'
-  pub asked-right : Right s Γ decls n expr maxNesting 0 (length expr) e table table′ (asked .unknown) (asked .miscounted) (asked .next)
+  pub asked-right : Right s Γ decls n expr maxNesting 0 (length expr) e table table (asked .unknown) (asked .miscounted) (asked .next)
   asked-right =
       walk-law v c s (stands .holds) fs (stands .declares) (stands .origins) (stands .good) q (omega arith) expr bytes 0 (length expr) e (omega arith) in-part
-      maxNesting deep n table table′ wide (asked .unknown) (asked .miscounted) (asked .next) looks
+      maxNesting deep n table table wide (asked .unknown) (asked .miscounted) (asked .next) looks
 
   low-token : (i : ℕ) (t : Token) → isToken t ≡ true → TokenFits (asToken t) → Low look (maxDefinitions + length decls) i t
   low-token i (Parameter j) h f z = not-true z
@@ -204,18 +203,8 @@ module _ (file : List ℕ) (fs : List Field) (s : State) (rs : List Row) (v : St
       tokens-found expr (Low look (maxDefinitions + length decls)) maxNesting 0 (tree .0) (0 + length expr) (tree .1)
       (λ i a b h. low-token i (tokenAt expr i) h (good-at expr i bytes h .0))
 
-  span : Span 0 (0 + length expr) (tree .0)
-  span = subst (SpanOf 0) (tree .1) (span-found maxNesting expr 0)
-
-  pub reads : Reads look table′ (tree .0)
-  unfolding table′
-  reads = noted-reads (tree .0) look table 0 (0 + length expr) span wide
-
-  below : RefsBelow (maxDefinitions + length decls) table′ (tree .0)
-  below = reads-below (tree .0) look (maxDefinitions + length decls) table′ reads low
-
-  counts : countsKept (tree .0) ≡ true
-  counts = counts-kept (tree .0) 0 ∙ ap not (ap (somewhere (λ k t m. overCount t) 0) (tree .2) ∙ limits .1)
+  below : RefsBelow (maxDefinitions + length decls) table (tree .0)
+  below = reads-below (tree .0) look (maxDefinitions + length decls) table reads low
 
   made-of-tokens : Tokens (tree .0)
   made-of-tokens =
@@ -227,14 +216,10 @@ module _ (file : List ℕ) (fs : List Field) (s : State) (rs : List Row) (v : St
         clear-in s Γ n e (stands .good .sound) (known-context s q (omega (arith, stands .holds .modules)) (stands .good)) (expression-back expr e spelt .0)
         (sym (asked-right .cause-9) ∙ known) (sym (asked-right .cause-10) ∙ counted-right)
 
-    -- the level token by token is the level by the rules
-    pub asked-level : (ls : List ℕ) (l x : ℕ) → Worth (askedLevels (v .names) (v .facts) (codesOf v q) (sceneOf itselves words) ls) 0 (exprAt maxNesting expr 0) l x
-        → length ls ≡ n → n ≤ maxArity → All IsLevel ls → l ≡ levelOf s ls (resolve s Γ e)
-    unfolding Worth
-    asked-level ls l x w size few a =
-        subst (λ (f : Found). Worth (askedLevels (v .names) (v .facts) (codesOf v q) (sceneOf itselves words) ls) 0 f l x) (tree .1) w .0
-        ∙ level-asked (v .names) (v .facts) (codesOf v q) table′ (sceneOf itselves words) ls (tree .0) reads 0
-        ∙ six-levels table′ itselves words 0 (omega arith) ls (tree .0) (subst CountedAt (tree .1) (counted maxNesting expr 0)) counts 0
-        ∙ ap (λ (w : List ℕ). fold (levels table′ (sceneOf itselves words) 0 w) 0 (tree .0)) (take-all width ls (omega arith))
-        ∙ own-level table′ decls (sceneOf itselves words) s (stands .good) (stands .forms) n ls (omega arith) a (tree .0) (resolve s Γ e) made-of-tokens below
+    -- the level that the form gives is the level by the rules
+    pub asked-level : (ls : List ℕ) (form : ℕ) → TextForm (namesIn (v .names) (v .facts) (codesOf v q) words expr) expr 0 form → length ls ≡ n → n ≤ maxArity
+        → All IsLevel ls → levelAt form ls ≡ levelOf s ls (resolve s Γ e)
+    asked-level ls form shown size few a =
+        shown .level (tree .0) (0 + length expr) (tree .1) ls (omega arith)
+        ∙ own-level table decls (sceneOf itselves words) s (stands .good) (stands .forms) n ls (omega arith) a (tree .0) (resolve s Γ e) made-of-tokens below
         (asked-right .resolved known (tree .0) (0 + length expr) (tree .1)) formed

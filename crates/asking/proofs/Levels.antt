@@ -20,10 +20,10 @@ module _ (levels : List ℕ) (i : ℕ) (w : Bool) (same : aboveFrom levels i ≡
   here : i < length levels → aboveFrom levels i ≡ leb levelCount (getD levels i 0) || aboveFrom levels (suc i)
   here h = ap (any (λ l. leb levelCount l)) (drop-cons levels i 0 h)
 
-  pub above-found : i < length levels → 4 < getD levels i 0 → true ≡ w
+  pub above-found : i < length levels → levelCount ≤ getD levels i 0 → true ≡ w
   above-found h k = sym (here h ∙ rw (le-leb levelCount (getD levels i 0) (omega arith)) refl) ∙ same
 
-  pub above-next : i < length levels → getD levels i 0 ≤ 4 → aboveFrom levels (i + 1) ≡ w
+  pub above-next : i < length levels → getD levels i 0 < levelCount → aboveFrom levels (i + 1) ≡ w
   above-next h k = rw (add-one i) (sym (here h ∙ rw (lt-leb levelCount (getD levels i 0) (omega arith)) refl) ∙ same)
 
   pub above-none : length levels ≤ i → false ≡ w

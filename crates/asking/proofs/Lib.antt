@@ -2,8 +2,7 @@
 pub mod Levels
 pub mod Causes
 pub mod Serving
-pub mod Heading
-pub mod Moving
+pub mod Stepping
 pub mod Walking
 -- The table that the walk does without
 pub mod Noting

@@ -20,13 +20,15 @@ use Rattle.rules.specs.Query.{orNoSuch, readIn, unlessCause}
 use Rattle.rules.specs.Run.{Outcome, andThen, refusal, result}
 use Rattle.rules.specs.State.{Module, State, levelOf, moduleNamed, noModule, resolve}
 use Rattle.tokens.specs.Expr.{exprAt, wholeOf}
-use Rattle.tokens.specs.Fold.{Algebra, Worth}
+use Rattle.tokens.specs.Fold.{Algebra}
 use Rattle.tokens.specs.Limit.{keptOf, limitAt}
 use Rattle.tokens.proofs.Nesting.{limited}
 use Rattle.tokens.proofs.Writing.{Bytes}
 use Rattle.agree.proofs.Expressions.{whole-agrees, whole-read}
-use Rattle.forms.specs.Forms.{width}
-use Rattle.levels.specs.Tables.{sceneOf}
+use Rattle.agree.specs.Folds.{searching}
+use Rattle.forms.specs.Forms.{levelAt}
+use Rattle.resolve.specs.Walk.{unknownIn}
+use Rattle.levels.specs.Walk.{TextForm}
 use Rattle.context.specs.Holds.{Holds, moduleNo}
 use Rattle.context.specs.Parts.{part, placeOf}
 use Rattle.context.specs.Store.{Store, contextCodes, store}
@@ -34,16 +36,16 @@ use Rattle.context.specs.declared.Counts.{Counts}
 use Rattle.context.proofs.Lookups.{module-law}
 use Rattle.worlds.specs.Rows.{Row}
 use Rattle.judge_plain.specs.declared.Phase.{Phase}
-use Rattle.standing.specs.Standing.{Standing, itselves}
+use Rattle.standing.specs.Standing.{Standing}
 use Rattle.skimming.specs.Kept.{isPassed}
 use Rattle.asking.specs.Asks.{Asks, AsksIn, NamesAsked, keptReply, levelsCause, limitCause, nameCause, replyOf}
-use Rattle.asking.specs.Walk.{JudgedFirst, askedLevels}
+use Rattle.asking.specs.Walk.{Judged, namesIn}
 use Rattle.asking.specs.declared.Walked.{Walked}
 use Rattle.asking.specs.declared.Asked.{Asked}
 use Rattle.asking.specs.declared.Asked.the-variants.{Level, Refused}
 use Rattle.asking.proofs.Judging.{asked-level, asked-right, limit-law}
 use Rattle.skimming.proofs.Ends.{kept-whole}
-use Rattle.skimming.proofs.Keeping.{kept-passed, kept-worth}
+use Rattle.skimming.proofs.Keeping.{kept-passed}
 use Rattle.asking.proofs.Noting.{names-asked}
 
 -- the module at a place of those ended
@@ -177,10 +179,6 @@ module _ (levels expr : List ℕ) where
   unfolding readingCause
   bytes-left z = let f = few-right z in rw (f .0, f .1) refl
 
-  -- a query of which they tell nothing has at most three parameters
-  pub few-given : levelsCause levels expr ≡ 0 → length levels ≤ width
-  few-given z = omega (arith, ltb-false maxArity (length levels) (few-right z .1))
-
 -- The reply in a module m that is ended.
 module _ (names facts contexts heads words : List ℕ) (m fields : ℕ) (levels expr : List ℕ) (bytes : Bytes expr) where
   abbrev End : State → Term → Outcome ℕ
@@ -245,13 +243,13 @@ module _ (names facts contexts heads words : List ℕ) (m fields : ℕ) (levels 
     answers z = none-of-two (asked .unknown) (asked .miscounted) (sym (asked .cause) ∙ z)
 
     -- the level
-    reply-level : k ≡ 0 → (l x : ℕ) → Worth (askedLevels names facts (contextCodes contexts heads m) (sceneOf itselves words) levels) 0 (exprAt maxNesting expr 0) l x
-        → AsksIn names facts contexts heads words m fields levels expr (Level l)
-    reply-level z l x worth = record {
+    reply-level : k ≡ 0 → (form : ℕ) → TextForm (namesIn names facts (contextCodes contexts heads m) words expr) expr 0 form
+        → AsksIn names facts contexts heads words m fields levels expr (Level (levelAt form levels))
+    reply-level z form shown = record {
       reply = λ file fs s rs c p orders refs declared stands ended _.
           let a = answers z in
           let law = asked-level file fs s rs (store names facts contexts orders heads) c p refs words declared stands m ended expr bytes (spelt .0) (spelt .1)
-          (causes .2) (length levels) k asked (a .0) (a .1) levels l x worth refl few-levels (are-levels levels expr bytes (causes .0)) in
+          (causes .2) (length levels) k asked (a .0) (a .1) levels form shown refl few-levels (are-levels levels expr bytes (causes .0)) in
           ap result law
           ∙ none-at-all (any (λ l. leb levelCount l) levels) (overArity (length levels)) (overLimit (spelt .0))
           (unknown s (moduleNo s m .context) (length levels) (spelt .0)) (miscounted s (moduleNo s m .context) (spelt .0)) (s .fields)
@@ -263,14 +261,14 @@ module _ (names facts contexts heads words : List ℕ) (m fields : ℕ) (levels 
   pub reply-levels : (r : ℕ) → r ≡ levelsCause levels expr → (r ≡ 0 → ⊥) → AsksIn names facts contexts heads words m fields levels expr (Refused r fields)
   reply-levels r is-r h = reply-reading r (is-r ∙ sym (levels-tell levels expr (λ z. h (is-r ∙ z)))) h
 
-  module _ (clear : levelsCause levels expr ≡ 0) (w : Walked) (judged : JudgedFirst names facts (contextCodes contexts heads m) words levels (length levels) expr w) where
-    abbrev G : Algebra ℕ ℕ (List ℕ)
-    G = askedLevels names facts (contextCodes contexts heads m) (sceneOf itselves words) levels
+  module _ (clear : levelsCause levels expr ≡ 0) (w : Walked) (judged : Judged names facts (contextCodes contexts heads m) words (length levels) expr w) where
+    abbrev G : Algebra ℕ Bool Bool
+    G = searching (unknownIn names facts (contextCodes contexts heads m) (length levels))
 
     passed : isPassed (limitAt expr 0) ≡ not (w .kept)
     passed =
         ap isPassed (sym (limited expr 0 (keptOf (exprAt maxNesting expr 0)) refl))
-        ∙ kept-passed G 0 (exprAt maxNesting expr 0) (w .kept) (w .level) (w .next) (judged .level)
+        ∙ kept-passed G 0 (exprAt maxNesting expr 0) (w .kept) (w .looked .unknown) (w .looked .next) (judged .causes .unknown)
 
     -- a walk that passes a limit
     reading-passed : w .kept ≡ false → readingCause levels expr ≡ limitCause expr
@@ -278,25 +276,24 @@ module _ (names facts contexts heads words : List ℕ) (m fields : ℕ) (levels 
     reading-passed k = bytes-left levels expr clear ∙ rw (passed ∙ ap not k) refl
 
     -- a walk that keeps them
-    reading-kept : w .kept ≡ true → readingCause levels expr ≡ cond (eqb (w .next) (length expr)) 0 3
+    reading-kept : w .kept ≡ true → readingCause levels expr ≡ cond (eqb (w .looked .next) (length expr)) 0 3
     reading-kept k =
-        bytes-left levels expr clear ∙ rw (passed ∙ ap not k, kept-whole G 0 expr (w .kept) (w .level) (w .next) (judged .level) k) refl
+        bytes-left levels expr clear ∙ rw (passed ∙ ap not k, kept-whole G 0 expr (w .kept) (w .looked .unknown) (w .looked .next) (judged .causes .unknown) k) refl
 
-    asked : (kept : w .kept ≡ true) (k : ℕ) → k ≡ nameCause (w .unknown) (w .miscounted)
+    asked : (kept : w .kept ≡ true) (k : ℕ) → k ≡ nameCause (w .looked .unknown) (w .looked .miscounted)
         → NamesAsked names facts (contextCodes contexts heads m) (length levels) (exprAt maxNesting expr 0) k
-    asked kept k e = names-asked names facts (contextCodes contexts heads m) words levels (length levels) expr w judged kept k e
+    asked kept k e = names-asked names facts (contextCodes contexts heads m) words (length levels) expr w judged kept k e
 
-    reply-all-kept : w .kept ≡ true → readingCause levels expr ≡ 0 → AsksIn names facts contexts heads words m fields levels expr (keptReply w fields)
+    reply-all-kept : w .kept ≡ true → readingCause levels expr ≡ 0 → AsksIn names facts contexts heads words m fields levels expr (keptReply levels w fields)
     unfolding keptReply nameCause
-    reply-all-kept k z = go (w .unknown) refl (w .miscounted) refl
+    reply-all-kept k z = go (w .looked .unknown) refl (w .looked .miscounted) refl
       where
-        go : (u : Bool) → w .unknown ≡ u → (d : Bool) → w .miscounted ≡ d
-            → AsksIn names facts contexts heads words m fields levels expr (cond u (Refused 9 fields) (cond d (Refused 10 fields) (Level (w .level))))
+        go : (u : Bool) → w .looked .unknown ≡ u → (d : Bool) → w .looked .miscounted ≡ d
+            → AsksIn names facts contexts heads words m fields levels expr (cond u (Refused 9 fields) (cond d (Refused 10 fields) (Level (levelAt (w .form) levels))))
         go true eu d ed = reply-names z 9 (asked k 9 (rw eu refl)) (λ z. omega arith)
         go false eu true ed = reply-names z 10 (asked k 10 (rw (eu, ed) refl)) (λ z. omega arith)
         go false eu false ed =
-            reply-level z 0 (asked k 0 (rw (eu, ed) refl)) refl (w .level) (w .next)
-            (kept-worth G 0 (exprAt maxNesting expr 0) (w .kept) (w .level) (w .next) (judged .level) k)
+            reply-level z 0 (asked k 0 (rw (eu, ed) refl)) refl (w .form) (judged .level k)
 
     some-cause : limitCause expr ≡ 0 → ⊥
     unfolding limitCause
@@ -306,12 +303,12 @@ module _ (names facts contexts heads words : List ℕ) (m fields : ℕ) (levels 
         go true h = omega arith
         go false h = omega arith
 
-    pub reply-walked : (r : Asked) → r ≡ replyOf expr w fields → AsksIn names facts contexts heads words m fields levels expr r
+    pub reply-walked : (r : Asked) → r ≡ replyOf levels expr w fields → AsksIn names facts contexts heads words m fields levels expr r
     unfolding replyOf
-    reply-walked r q = subst (AsksIn names facts contexts heads words m fields levels expr) (sym q) (go (w .kept) refl (eqb (w .next) (length expr)) refl)
+    reply-walked r q = subst (AsksIn names facts contexts heads words m fields levels expr) (sym q) (go (w .kept) refl (eqb (w .looked .next) (length expr)) refl)
       where
-        go : (a : Bool) → w .kept ≡ a → (b : Bool) → eqb (w .next) (length expr) ≡ b
-            → AsksIn names facts contexts heads words m fields levels expr (cond a (cond b (keptReply w fields) (Refused 3 fields)) (Refused (limitCause expr) fields))
+        go : (a : Bool) → w .kept ≡ a → (b : Bool) → eqb (w .looked .next) (length expr) ≡ b
+            → AsksIn names facts contexts heads words m fields levels expr (cond a (cond b (keptReply levels w fields) (Refused 3 fields)) (Refused (limitCause expr) fields))
         go false k b e = reply-reading (limitCause expr) (sym (reading-passed k)) some-cause
         go true k true e = reply-all-kept k (reading-kept k ∙ rw e refl)
         go true k false e = reply-reading 3 (sym (reading-kept k ∙ rw e refl)) (λ z. omega arith)

@@ -1,233 +1,167 @@
--- The walk: one lemma for each way through its code, with the facts that the code has there as premises.
-use mathlib.Core.Bool.{Bool, cond, false, or-false, true, _||_}
-use mathlib.Core.List.{List, _∷_}
-use mathlib.Core.Path.{_∙_, _≡_, ap, refl, sym}
-use Prim.Native.Nat.{ℕ, _+_, _-_, _<_, _≤_}
+-- The walk: one lemma for each way through its code, with the facts that the code has there as premises. Of the causes it is skimming's, of the
+-- level that over a text.
+use mathlib.Core.Bool.{Bool, cond, false, true, _||_}
+use mathlib.Core.List.{List}
+use mathlib.Core.Path.{_∙_, _≡_, ap, refl, subst, sym}
+use Prim.Native.Nat.{ℕ, _-_, _/_, _^_, _<_, _≤_}
 use native.Mathlib.Omega.{arith}
 use lib.Dec.{eqb}
-use lib.ListN.{take}
-use Rattle.limits.specs.Limits.{maxArity}
-use Rattle.tokens.specs.Expr.{Founds, exprAt, several}
-use Rattle.tokens.specs.Fold.{Algebra, underOf}
-use Rattle.tokens.specs.Token.{argumentsOf, isToken, tokenAt, widthOf}
-use Rattle.tokens.specs.declared.Token.{Token}
-use Rattle.tokens.proofs.Folding.{Scoped, scoped-at}
-use Rattle.tokens.proofs.Reading.{several-more}
-use Rattle.agree.specs.Folds.{searching}
-use Rattle.resolve.specs.Walk.{miscountedIn, unknownIn}
-use Rattle.levels.specs.Tables.{sceneOf}
-use Rattle.standing.specs.Standing.{itselves}
-use Rattle.asking.specs.Walk.{AllJudged, Headed, Inside, Judged, Low, argumentLevels, askedLevels, noneOf, oneOf, threeOf, twoOf}
-use Rattle.asking.specs.declared.Args.{Args}
-use Rattle.asking.specs.declared.Scope.{Scope}
+use Rattle.limits.specs.Limits.{maxArity, maxNesting}
+use Rattle.tokens.specs.Expr.{exprAt, several}
+use Rattle.tokens.specs.Fold.{underOf}
+use Rattle.tokens.proofs.Places.{never}
+use Rattle.resolve.specs.Walk.{wordCount}
+use Rattle.resolve.specs.declared.Looked.{Looked}
+use Rattle.forms.specs.Labels.{Digit, after}
+use Rattle.levels.specs.Tables.{Names}
+use Rattle.levels.proofs.Walking as down
+use Rattle.skimming.specs.Skims as causes
+use Rattle.skimming.specs.declared.Skimmed.{Skimmed}
+use Rattle.skimming.proofs.Walking as along
+use Rattle.asking.specs.Walk.{AllJudged, Judged, Roomy, Steps, causesOf, levelOf, namesIn, underOf as levelUnder}
 use Rattle.asking.specs.declared.Walked.{Walked}
-use Rattle.skimming.proofs.Keeping.{kept-count, kept-limit, kept-lost, kept-nothing, kept-token, kepts-later, kepts-lost, kepts-more, kepts-none}
+use Rattle.asking.specs.declared.steps.Scope.{Scope}
+use Rattle.asking.specs.declared.steps.Step.{Step}
+use Rattle.asking.specs.declared.walk.Under.{Under}
 
-module _ (names facts cs words v : List ℕ) (p : ℕ) where
-  abbrev L : Algebra ℕ ℕ (List ℕ)
-  L = askedLevels names facts cs (sceneOf itselves words) v
+-- what is left of a walk, by what it says of the causes and of the level
+pub record Going (names facts cs words : List ℕ) (p : ℕ) (s : List ℕ) (at count nesting : ℕ) (u : Under) (start : ℕ) (a : Looked) (form k nest : ℕ) (outer last : Scope) (label labels : ℕ) : Type 0 where
+  pub causes : along.Going names facts cs p s at count nesting (u .around .bound) (u .within .bound) a k nest (outer .bound) (last .bound)
+  pub level : down.Going (namesIn names facts cs words s) s at count nesting (levelUnder u) start form (a .next) k nest (outer .bits) (last .bits) label labels
 
-  abbrev U : Algebra ℕ Bool Bool
-  U = searching (unknownIn names facts cs p)
+-- what a walk that kept the limits says of the causes
+abbrev skimmed : Walked → Skimmed
+skimmed w = record { kept = w .kept; looked = w .looked }
 
-  abbrev M : Algebra ℕ Bool Bool
-  M = searching (miscountedIn names facts cs)
+-- the parts of a scope
+module _ (k : ℕ) (outer last e : Scope) (h : e ≡ underOf k outer last) where
+  bound-under : e .bound ≡ underOf k (outer .bound) (last .bound)
+  bound-under = ap (λ (y : Scope). y .bound) h ∙ go (eqb k 1)
+    where
+      go : (c : Bool) → cond c last outer .bound ≡ cond c (last .bound) (outer .bound)
+      go true = refl
+      go false = refl
 
-  -- an expression
-  module _ (e : Scope) (n : ℕ) (s : List ℕ) (at : ℕ) (r : Walked) where
-    pub judged-limit : n ≡ 0 → r .kept ≡ false → r .level ≡ 0 → Judged names facts cs words v p e (exprAt n s at) r
-    judged-limit z h l = record {
-      low = omega arith;
-      level = kept-limit L n s at (e .bits) (r .kept) (r .level) (r .next) z h;
-      unknown = kept-limit U n s at (e .bound) (r .kept) (r .unknown) (r .next) z h;
-      miscounted = kept-limit M n s at (e .bound) (r .kept) (r .miscounted) (r .next) z h;
+  bits-under : e .bits ≡ underOf k (outer .bits) (last .bits)
+  bits-under = ap (λ (y : Scope). y .bits) h ∙ go (eqb k 1)
+    where
+      go : (c : Bool) → cond c last outer .bits ≡ cond c (last .bits) (outer .bits)
+      go true = refl
+      go false = refl
+
+module _ (names facts cs words : List ℕ) (p : ℕ) (s : List ℕ) (at count nesting : ℕ) (u : Under) (start : ℕ) where
+  abbrev N : Names
+  N = namesIn names facts cs words s
+
+  abbrev Answer : Walked → Type 0
+  Answer w = AllJudged names facts cs words p s u start (several (exprAt nesting s) at count) w
+
+  abbrev Left : Looked → ℕ → ℕ → ℕ → Scope → Scope → ℕ → ℕ → Type 0
+  Left a form k nest outer last label labels = Going names facts cs words p s at count nesting u start a form k nest outer last label labels
+
+  pub going-start : (a : Looked) → (a .next ≡ at) × (a .unknown ≡ false) × (a .miscounted ≡ false) → count ≤ maxArity → Roomy nesting u
+      → Left a start count nesting (u .around) (u .within) (u .label) (u .labels)
+  going-start a h few r = record {
+    causes = along.going-start names facts cs p s at count nesting (u .around .bound) (u .within .bound) a h few (r .around) (r .within);
+    level = subst (λ (i : ℕ). down.Going N s at count nesting (levelUnder u) start start i count nesting (u .around .bits) (u .within .bits) (u .label) (u .labels)) (sym (h .0))
+        (down.going-start N s at count nesting (levelUnder u) start (r .bits));
+  }
+
+  module _ (a : Looked) (form k nest : ℕ) (outer last : Scope) (label labels : ℕ) (inv : Left a form k nest outer last label labels) where
+    stopped : (w : Walked) → w .kept ≡ false
+        → causes.SkimsAll names facts cs p (u .around .bound) (u .within .bound) (several (exprAt nesting s) at count) (w .kept) (w .looked) → Answer w
+    stopped w z h = record { causes = h; level = λ k. never (sym z ∙ k) }
+
+    pub going-end : k ≡ 0 → Answer (record { kept = true; form = form; looked = a })
+    going-end z = record {
+      causes = along.going-end names facts cs p s at count nesting (u .around .bound) (u .within .bound) a k nest (outer .bound) (last .bound) (inv .causes) z;
+      level = λ _. down.going-end N s at count nesting (levelUnder u) start form (a .next) k nest (outer .bits) (last .bits) label labels (inv .level) z;
     }
 
-    module _ (t : Token) (i : Bool) (et : t ≡ tokenAt s at) (ei : i ≡ isToken t) where
-      pub judged-nothing : i ≡ false → r .kept ≡ false → r .level ≡ 0 → Judged names facts cs words v p e (exprAt n s at) r
-      judged-nothing z h l = record {
-        low = omega arith;
-        level = kept-nothing L n s at (e .bits) (r .kept) (r .level) (r .next) t i et ei z h;
-        unknown = kept-nothing U n s at (e .bound) (r .kept) (r .unknown) (r .next) t i et ei z h;
-        miscounted = kept-nothing M n s at (e .bound) (r .kept) (r .miscounted) (r .next) t i et ei z h;
-      }
+    pub stop-limit : (k ≡ 0 → ⊥) → nest ≡ 0 → (w : Walked) → w .kept ≡ false → Answer w
+    stop-limit some z w q =
+        stopped w q
+        (along.stop-limit names facts cs p s at count nesting (u .around .bound) (u .within .bound) a k nest (outer .bound) (last .bound) (inv .causes) some z (skimmed w) q)
 
-      module _ (there : i ≡ true) (deep : n ≡ 0 → ⊥) (k : ℕ) (ek : k ≡ argumentsOf t) where
-        pub judged-count : maxArity < k → r .kept ≡ false → r .level ≡ 0 → Judged names facts cs words v p e (exprAt n s at) r
-        judged-count z h l = record {
-          low = omega arith;
-          level = kept-count L n s at (e .bits) (r .kept) (r .level) (r .next) t i et ei there deep k ek z h;
-          unknown = kept-count U n s at (e .bound) (r .kept) (r .unknown) (r .next) t i et ei there deep k ek z h;
-          miscounted = kept-count M n s at (e .bound) (r .kept) (r .miscounted) (r .next) t i et ei there deep k ek z h;
-        }
+    module _ (some : k ≡ 0 → ⊥) (e : Scope) (ee : e ≡ underOf k outer last) where
+      pub going-bits : e .bits < 2 ^ 63
+      going-bits =
+          down.going-low N s at count nesting (levelUnder u) start form (a .next) k nest (outer .bits) (last .bits) label labels (inv .level) some (e .bits)
+          (bits-under k outer last e ee)
 
-        module _ (w : ℕ) (ew : w ≡ widthOf t) (last : Scope) (ins : Inside t e last) (a : Args)
-            (all : AllJudged names facts cs words v p e last (several (exprAt (n - 1) s) (at + w) k) a) where
-          pub judged-lost : a .kept ≡ false → r .kept ≡ false → r .level ≡ 0 → Judged names facts cs words v p e (exprAt n s at) r
-          judged-lost z h l = record {
-            low = omega arith;
-            level = kept-lost L n s at (e .bits) (r .kept) (r .level) (r .next) t i et ei there deep k ek w ew (last .bits) (ins .bits .same)
-                (a .kept) (argumentLevels a) (a .next) (all .level) z h;
-            unknown = kept-lost U n s at (e .bound) (r .kept) (r .unknown) (r .next) t i et ei there deep k ek w ew (last .bound) (ins .bound)
-                (a .kept) (a .unknown) (a .next) (all .unknown) z h;
-            miscounted = kept-lost M n s at (e .bound) (r .kept) (r .miscounted) (r .next) t i et ei there deep k ek w ew (last .bound) (ins .bound)
-                (a .kept) (a .miscounted) (a .next) (all .miscounted) z h;
+      pub going-bound : e .bound < wordCount
+      going-bound =
+          along.going-low names facts cs p s at count nesting (u .around .bound) (u .within .bound) a k nest (outer .bound) (last .bound) (inv .causes) (e .bound)
+          (bound-under k outer last e ee)
+
+      module _ (d : ℕ) (ed : Digit (after label labels) d) (t : Step) (steps : Steps names facts cs words p s e d form a t) where
+        pub stop-token : t .kept ≡ false → (w : Walked) → w .kept ≡ false → Answer w
+        stop-token z w q =
+            stopped w q
+            (along.stop-token names facts cs p s at count nesting (u .around .bound) (u .within .bound) a k nest (outer .bound) (last .bound) (inv .causes) some (e .bound)
+            (bound-under k outer last e ee) (causesOf t) (steps .causes) z (skimmed w) q)
+
+        module _ (there : t .kept ≡ true) (more : nest ≡ 0 → ⊥) where
+          pub going-roomy : (m : ℕ) → Roomy (nest - 1) (record { around = e; within = t .inner; label = d; labels = m })
+          going-roomy m =
+              let f = down.going-fits N s at count nesting (levelUnder u) start form (a .next) k nest (outer .bits) (last .bits) label labels (inv .level) some (e .bits)
+              (bits-under k outer last e ee) d ed (levelOf t) (steps .level there) there more d m (ed .low) in
+              record {
+                bits = record { around = f .around; within = f .within; label = f .label };
+                around = along.going-below names facts cs p s at count nesting (u .around .bound) (u .within .bound) a k nest (outer .bound) (last .bound) (inv .causes) (e .bound)
+                    (bound-under k outer last e ee);
+                within = along.going-within names facts cs p s at count nesting (u .around .bound) (u .within .bound) a k nest (outer .bound) (last .bound) (inv .causes) (e .bound)
+                    (bound-under k outer last e ee) (causesOf t) (steps .causes) more;
+              }
+
+          -- an argument that has none itself
+          pub going-leaf : t .count ≡ 0 → Left (t .looked) (t .form) (k - 1) nest outer last label (labels / 8)
+          going-leaf z = record {
+            causes = along.going-leaf names facts cs p s at count nesting (u .around .bound) (u .within .bound) a k nest (outer .bound) (last .bound) (inv .causes) some (e .bound)
+                (bound-under k outer last e ee) (causesOf t) (steps .causes) there more z;
+            level = down.going-leaf N s at count nesting (levelUnder u) start form (a .next) k nest (outer .bits) (last .bits) label labels (inv .level) some (e .bits)
+                (bits-under k outer last e ee) d ed (levelOf t) (steps .level there) there more z;
           }
 
-          pub judged-token : k ≤ maxArity → a .kept ≡ true → Headed names facts cs words v p e t a r → Judged names facts cs words v p e (exprAt n s at) r
-          judged-token c z h = record {
-            low = h .low;
-            level = kept-token L n s at (e .bits) (r .kept) (r .level) (r .next) t i et ei there deep k ek w ew (last .bits) (ins .bits .same)
-                (a .kept) (argumentLevels a) (a .next) (all .level) c z (h .kept) (h .next) (h .level);
-            unknown = kept-token U n s at (e .bound) (r .kept) (r .unknown) (r .next) t i et ei there deep k ek w ew (last .bound) (ins .bound)
-                (a .kept) (a .unknown) (a .next) (all .unknown) c z (h .kept) (h .next) (h .unknown);
-            miscounted = kept-token M n s at (e .bound) (r .kept) (r .miscounted) (r .next) t i et ei there deep k ek w ew (last .bound) (ins .bound)
-                (a .kept) (a .miscounted) (a .next) (all .miscounted) c z (h .kept) (h .next) (h .miscounted);
+          -- the last argument: what is left is its arguments
+          pub going-inside : k ≡ 1 → Left (t .looked) (t .form) (t .count) (nest - 1) e (t .inner) d (t .labels)
+          going-inside z = record {
+            causes = along.going-inside names facts cs p s at count nesting (u .around .bound) (u .within .bound) a k nest (outer .bound) (last .bound) (inv .causes) some (e .bound)
+                (bound-under k outer last e ee) (causesOf t) (steps .causes) there more z;
+            level = down.going-inside N s at count nesting (levelUnder u) start form (a .next) k nest (outer .bits) (last .bits) label labels (inv .level) some (e .bits)
+                (bits-under k outer last e ee) d ed (levelOf t) (steps .level there) there more z;
           }
 
-  -- an argument list
-  module _ (outer last : Scope) where
-    under-bits : (k : ℕ) → underOf k outer last .bits ≡ underOf k (outer .bits) (last .bits)
-    under-bits k = go (eqb k 1)
-      where
-        go : (b : Bool) → cond b last outer .bits ≡ cond b (last .bits) (outer .bits)
-        go true = refl
-        go false = refl
+          -- another argument
+          module _ (b : Walked)
+              (args : AllJudged names facts cs words p s (record { around = e; within = t .inner; label = d; labels = t .labels }) (t .form) (several (exprAt (nest - 1) s) (t .looked .next) (t .count)) b) where
+            pub stop-inside : b .kept ≡ false → (w : Walked) → w .kept ≡ false → Answer w
+            stop-inside z w q =
+                stopped w q
+                (along.stop-inside names facts cs p s at count nesting (u .around .bound) (u .within .bound) a k nest (outer .bound) (last .bound) (inv .causes) some (e .bound)
+                (bound-under k outer last e ee) (causesOf t) (steps .causes) there more (skimmed b) (args .causes) z (skimmed w) q)
 
-    under-bound : (k : ℕ) → underOf k outer last .bound ≡ underOf k (outer .bound) (last .bound)
-    under-bound k = go (eqb k 1)
-      where
-        go : (b : Bool) → cond b last outer .bound ≡ cond b (last .bound) (outer .bound)
-        go true = refl
-        go false = refl
+            pub going-on : b .kept ≡ true → (x : Looked)
+                → (x .next ≡ b .looked .next) × (x .unknown ≡ (t .looked .unknown || b .looked .unknown)) × (x .miscounted ≡ (t .looked .miscounted || b .looked .miscounted))
+                → Left x (b .form) (k - 1) nest outer last label (labels / 8)
+            going-on z x h = record {
+              causes = along.going-on names facts cs p s at count nesting (u .around .bound) (u .within .bound) a k nest (outer .bound) (last .bound) (inv .causes) some (e .bound)
+                  (bound-under k outer last e ee) (causesOf t) (steps .causes) there more (skimmed b) (args .causes) z x h;
+              level = subst (λ (i : ℕ). down.Going N s at count nesting (levelUnder u) start (b .form) i (k - 1) nest (outer .bits) (last .bits) label (labels / 8)) (sym (h .0))
+                  (down.going-on N s at count nesting (levelUnder u) start form (a .next) k nest (outer .bits) (last .bits) label labels (inv .level) some (e .bits)
+                  (bits-under k outer last e ee) d ed (levelOf t) (steps .level there) there more (b .form) (b .looked .next) (args .level z));
+            }
 
-    abbrev All : Founds → Args → Type 0
-    All y a = AllJudged names facts cs words v p outer last y a
+-- ---- the whole expression
+abbrev outermost : Under
+outermost = record { around = record { bits = 0; bound = 0 }; within = record { bits = 0; bound = 0 }; label = 1; labels = 1 }
 
-    none-kept : (n : ℕ) (s : List ℕ) (at : ℕ) → All (several (exprAt n s) at 0) (noneOf true at)
-    none-kept n s at = record {
-      low = record { first = omega arith; second = omega arith; third = omega arith };
-      level = kepts-none L (outer .bits) (last .bits) (exprAt n s) at;
-      unknown = kepts-none U (outer .bound) (last .bound) (exprAt n s) at;
-      miscounted = kepts-none M (outer .bound) (last .bound) (exprAt n s) at;
-    }
+pub roomy-start : Roomy maxNesting outermost
+roomy-start = record { bits = down.fits-start maxNesting 1 (omega arith); around = omega arith; within = omega arith }
 
-    module _ (n : ℕ) (s : List ℕ) (at k : ℕ) (some : k ≡ 0 → ⊥) (e : Scope) (ee : e ≡ underOf k outer last) (a : Walked)
-        (first : Judged names facts cs words v p e (exprAt n s at) a) where
-      abbrev Here : Args → Type 0
-      Here r = All (several (exprAt n s) at k) r
-
-      lost : a .kept ≡ false → (x : ℕ) → Here (noneOf false x)
-      lost z x =
-          rw (several-more (exprAt n s) at k some)
-          record {
-            low = record { first = omega arith; second = omega arith; third = omega arith };
-            level = kepts-lost L (outer .bits) (last .bits) (exprAt n s at) (λ q. several (exprAt n s) q (k - 1)) (e .bits) (a .level) (a .next)
-                (argumentLevels (noneOf false x)) x (rw z at (first .level));
-            unknown = kepts-lost U (outer .bound) (last .bound) (exprAt n s at) (λ q. several (exprAt n s) q (k - 1)) (e .bound) (a .unknown) (a .next)
-                false x (rw z at (first .unknown));
-            miscounted = kepts-lost M (outer .bound) (last .bound) (exprAt n s at) (λ q. several (exprAt n s) q (k - 1)) (e .bound) (a .miscounted) (a .next)
-                false x (rw z at (first .miscounted));
-          }
-
-      scoped-bits : (q : ℕ) → Scoped (outer .bits) (last .bits) (e .bits) (several (exprAt n s) q (k - 1))
-      scoped-bits q = rw (ap (λ (y : Scope). y .bits) ee ∙ under-bits k) (scoped-at (outer .bits) (last .bits) (exprAt n s) k q some)
-
-      scoped-bound : (q : ℕ) → Scoped (outer .bound) (last .bound) (e .bound) (several (exprAt n s) q (k - 1))
-      scoped-bound q = rw (ap (λ (y : Scope). y .bound) ee ∙ under-bound k) (scoped-at (outer .bound) (last .bound) (exprAt n s) k q some)
-
-      -- the first keeps the limits, the others g do not
-      lost-later : a .kept ≡ true → (g : Args) → All (several (exprAt n s) (a .next) (k - 1)) g → g .kept ≡ false → (x : ℕ) → Here (noneOf false x)
-      lost-later z g h y x =
-          rw (several-more (exprAt n s) at k some)
-          record {
-            low = record { first = omega arith; second = omega arith; third = omega arith };
-            level = kepts-later L (outer .bits) (last .bits) (exprAt n s at) (λ q. several (exprAt n s) q (k - 1)) (e .bits) (a .level) (a .next)
-                (argumentLevels (noneOf false x)) (argumentLevels g) (g .next) x (rw z at (first .level)) scoped-bits (rw y at (h .level));
-            unknown = kepts-later U (outer .bound) (last .bound) (exprAt n s at) (λ q. several (exprAt n s) q (k - 1)) (e .bound) (a .unknown) (a .next)
-                false (g .unknown) (g .next) x (rw z at (first .unknown)) scoped-bound (rw y at (h .unknown));
-            miscounted = kepts-later M (outer .bound) (last .bound) (exprAt n s at) (λ q. several (exprAt n s) q (k - 1)) (e .bound) (a .miscounted) (a .next)
-                false (g .miscounted) (g .next) x (rw z at (first .miscounted)) scoped-bound (rw y at (h .miscounted));
-          }
-
-      -- the first, and then the others g
-      more : a .kept ≡ true → (g r : Args) → All (several (exprAt n s) (a .next) (k - 1)) g → Low r → r .kept ≡ g .kept
-          → argumentLevels r ≡ a .level ∷ take 5 (argumentLevels g) → r .unknown ≡ (a .unknown || g .unknown)
-          → r .miscounted ≡ (a .miscounted || g .miscounted) → r .next ≡ g .next → Here r
-      more z g r h low ek el eu em en =
-          rw (several-more (exprAt n s) at k some)
-          record {
-            low = low;
-            level = rw (ek, en)
-                (kepts-more L (outer .bits) (last .bits) (exprAt n s at) (λ q. several (exprAt n s) q (k - 1)) (e .bits) (a .level) (a .next) (g .kept)
-                (argumentLevels r) (argumentLevels g) (g .next) (rw z at (first .level))
-                scoped-bits (h .level) el);
-            unknown = rw (ek, en)
-                (kepts-more U (outer .bound) (last .bound) (exprAt n s at) (λ q. several (exprAt n s) q (k - 1)) (e .bound) (a .unknown) (a .next) (g .kept)
-                (r .unknown) (g .unknown) (g .next) (rw z at (first .unknown))
-                scoped-bound (h .unknown) eu);
-            miscounted = rw (ek, en)
-                (kepts-more M (outer .bound) (last .bound) (exprAt n s at) (λ q. several (exprAt n s) q (k - 1)) (e .bound) (a .miscounted) (a .next) (g .kept)
-                (r .miscounted) (g .miscounted) (g .next) (rw z at (first .miscounted))
-                scoped-bound (h .miscounted) em);
-          }
-
-    -- one argument
-    one-kept : (n : ℕ) (s : List ℕ) (at k : ℕ) (e : Scope) → e ≡ underOf k outer last → (a : Walked) → Judged names facts cs words v p e (exprAt n s at) a
-        → a .kept ≡ true → k ≡ 1 → All (several (exprAt n s) at k) (oneOf a)
-    one-kept n s at k e ee a first z h =
-        let d : k - 1 ≡ 0 = omega arith in
-        more n s at k (λ (y : k ≡ 0). omega arith) e ee a first z (noneOf true (a .next)) (oneOf a) (rw d (none-kept n s (a .next)))
-        (record { first = first .low; second = omega arith; third = omega arith }) refl refl (sym (or-false (a .unknown)))
-        (sym (or-false (a .miscounted))) refl
-
-    -- two
-    two-kept : (n : ℕ) (s : List ℕ) (at k : ℕ) (e : Scope) → e ≡ underOf k outer last → (a : Walked) → Judged names facts cs words v p e (exprAt n s at) a
-        → a .kept ≡ true → (f : Scope) → f ≡ underOf (k - 1) outer last → (b : Walked) → Judged names facts cs words v p f (exprAt n s (a .next)) b
-        → b .kept ≡ true → k ≡ 2 → All (several (exprAt n s) at k) (twoOf a b)
-    two-kept n s at k e ee a first z f ef b second y h =
-        more n s at k (λ (x : k ≡ 0). omega arith) e ee a first z (oneOf b) (twoOf a b) (one-kept n s (a .next) (k - 1) f ef b second y (omega arith))
-        (record { first = first .low; second = second .low; third = omega arith }) refl refl refl refl refl
-
-    module _ (n : ℕ) (s : List ℕ) (at k : ℕ) (r : Args) where
-      pub args-none : k ≡ 0 → r ≡ noneOf true at → AllJudged names facts cs words v p outer last (several (exprAt n s) at k) r
-      args-none h q = rw (q, h) (none-kept n s at)
-
-      module _ (some : k ≡ 0 → ⊥) (e : Scope) (ee : e ≡ underOf k outer last) (a : Walked) (first : Judged names facts cs words v p e (exprAt n s at) a) where
-        pub args-lost : a .kept ≡ false → (x : ℕ) → r ≡ noneOf false x → AllJudged names facts cs words v p outer last (several (exprAt n s) at k) r
-        args-lost z x q = rw q (lost n s at k some e ee a first z x)
-
-        module _ (kept : a .kept ≡ true) where
-          pub args-one : k ≡ 1 → r ≡ oneOf a → AllJudged names facts cs words v p outer last (several (exprAt n s) at k) r
-          args-one h q = rw q (one-kept n s at k e ee a first kept h)
-
-          module _ (two : k ≡ 1 → ⊥) (f : Scope) (ef : f ≡ underOf (k - 1) outer last) (b : Walked)
-              (second : Judged names facts cs words v p f (exprAt n s (a .next)) b) where
-            others : k - 1 ≡ 0 → ⊥
-            others y = two (omega arith)
-
-            pub args-second-lost : b .kept ≡ false → (x : ℕ) → r ≡ noneOf false x → AllJudged names facts cs words v p outer last (several (exprAt n s) at k) r
-            args-second-lost z x q =
-                rw q (lost-later n s at k some e ee a first kept (noneOf false x) (lost n s (a .next) (k - 1) others f ef b second z x) refl x)
-
-            module _ (kept′ : b .kept ≡ true) where
-              pub args-two : k ≡ 2 → r ≡ twoOf a b → AllJudged names facts cs words v p outer last (several (exprAt n s) at k) r
-              args-two h q = rw q (two-kept n s at k e ee a first kept f ef b second kept′ h)
-
-              module _ (three : k ≡ 2 → ⊥) (few : k ≤ maxArity) (c : Walked) (third : Judged names facts cs words v p last (exprAt n s (b .next)) c) where
-                last-one : last ≡ underOf (k - 1 - 1) outer last
-                last-one = let d : k - 1 - 1 ≡ 1 = omega arith in rw d refl
-
-                pub args-third-lost : c .kept ≡ false → (x : ℕ) → r ≡ noneOf false x → AllJudged names facts cs words v p outer last (several (exprAt n s) at k) r
-                args-third-lost z x q =
-                    rw q
-                    (lost-later n s at k some e ee a first kept (noneOf false x)
-                    (lost-later n s (a .next) (k - 1) others f ef b second kept′ (noneOf false x)
-                    (lost n s (b .next) (k - 1 - 1) (λ (y : k - 1 - 1 ≡ 0). three (omega arith)) last last-one c third z x) refl x) refl x)
-
-                pub args-three : c .kept ≡ true → r ≡ threeOf a b c → AllJudged names facts cs words v p outer last (several (exprAt n s) at k) r
-                args-three z q =
-                    rw q
-                    (more n s at k some e ee a first kept (twoOf b c) (threeOf a b c)
-                    (two-kept n s (a .next) (k - 1) f ef b second kept′ last last-one c third z (omega arith))
-                    (record { first = first .low; second = second .low; third = third .low }) refl refl refl refl refl)
+pub judged-whole : (names facts cs words : List ℕ) (p : ℕ) (s : List ℕ) (w : Walked)
+    → AllJudged names facts cs words p s outermost 0 (several (exprAt maxNesting s) 0 1) w → Judged names facts cs words p s w
+judged-whole names facts cs words p s w h = record {
+  causes = along.one-alone names facts cs p 0 maxNesting s 0 (skimmed w) (h .causes);
+  level = λ k. down.text-shown (namesIn names facts cs words s) s 0 (w .form) (w .looked .next) (h .level k);
+}

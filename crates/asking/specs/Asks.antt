@@ -13,6 +13,7 @@ use Rattle.rules.specs.Query.{levelReply, readIn}
 use Rattle.rules.specs.Run.{andThen, result}
 use Rattle.rules.specs.State.{State, levelOf}
 use Rattle.tokens.specs.Expr.{Found, wholeOf}
+use Rattle.forms.specs.Forms.{levelAt}
 use Rattle.context.specs.Holds.{moduleNo}
 use Rattle.context.specs.Store.{store}
 use Rattle.context.specs.declared.Counts.{Counts}
@@ -47,13 +48,14 @@ pub record NamesAsked (names facts cs : List ℕ) (n : ℕ) (x : Found) (r : ℕ
   pub looks : Looks names facts cs n 0 x table noted unknown miscounted next
   pub cause : r ≡ nameCause unknown miscounted
 
--- the reply by what a walk of the expression found
-unfoldable pub keptReply : Walked → ℕ → Asked
-keptReply w fields = cond (w .unknown) (Refused 9 fields) (cond (w .miscounted) (Refused 10 fields) (Level (w .level)))
+-- the reply by what a walk of the expression found, at the levels given
+unfoldable pub keptReply : List ℕ → Walked → ℕ → Asked
+keptReply levels w fields =
+    cond (w .looked .unknown) (Refused 9 fields) (cond (w .looked .miscounted) (Refused 10 fields) (Level (levelAt (w .form) levels)))
 
-unfoldable pub replyOf : List ℕ → Walked → ℕ → Asked
-replyOf expr w fields =
-    cond (w .kept) (cond (eqb (w .next) (length expr)) (keptReply w fields) (Refused 3 fields)) (Refused (limitCause expr) fields)
+unfoldable pub replyOf : List ℕ → List ℕ → Walked → ℕ → Asked
+replyOf levels expr w fields =
+    cond (w .kept) (cond (eqb (w .looked .next) (length expr)) (keptReply levels w fields) (Refused 3 fields)) (Refused (limitCause expr) fields)
 
 -- The reply in module m is the rules', if the arrays show a state in which it is ended, and that many fields are read.
 pub record AsksIn (names facts contexts heads words : List ℕ) (m fields : ℕ) (levels expr : List ℕ) (r : Asked) : Type 0 where

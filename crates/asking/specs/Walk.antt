@@ -1,138 +1,106 @@
 -- What the walk over a query's expression finds. Each name is looked up where it stands, in a context given by its codes; no instance is around
 -- the expression. Definitions only.
-use mathlib.Core.Bool.{Bool, cond, false, true, _&&_, _||_}
-use mathlib.Core.List.{List, [], _∷_}
+use mathlib.Core.Bool.{false, true}
+use mathlib.Core.List.{List, map}
 use mathlib.Core.Path.{_≡_}
-use Prim.Native.Nat.{ℕ, _+_, _<_, _≤_}
-use lib.Dec.{eqb, ltb}
-use lib.ListN.{length, replicate, take}
+use Prim.Native.Nat.{ℕ, _+_, _<_}
+use lib.Dec.{leb}
+use lib.ListN.{getD, length}
 use Rattle.limits.specs.Limits.{maxNesting}
-use Rattle.rows.specs.Rows.{maskBitsOf}
-use Rattle.tokens.specs.Expr.{Found, Founds, exprAt}
-use Rattle.tokens.specs.Fold.{Algebra}
+use Rattle.theory.specs.Lists.{numbersFrom}
+use Rattle.rows.specs.Rows.{arityOf, noCode}
+use Rattle.tokens.specs.Expr.{Founds, exprAt}
+use Rattle.tokens.specs.Token.{tokenAt}
 use Rattle.tokens.specs.declared.Token.{Token}
-use Rattle.agree.specs.Folds.{searching}
-use Rattle.texts.specs.Text.{Scene, scope}
-use Rattle.forms.specs.Forms.{takes, width}
-use Rattle.forms.specs.Numbers.{demandOf}
-use Rattle.resolve.specs.Walk.{inside, miscountedIn, numberIn, unknownIn, wordCount}
-use Rattle.levels.specs.Tables.{sceneOf, tableWords}
-use Rattle.levels.specs.Six.{sixLevel}
-use Rattle.levels.specs.Walk.{Binds, Room}
+use Rattle.tokens.specs.declared.Token.the-variants.{BuiltIn, Parameter}
+use Rattle.texts.specs.Noted.{isName}
+use Rattle.resolve.specs.Look.{lookIn}
+use Rattle.resolve.specs.Walk.{inside, numberIn, numberOf, wordCount}
+use Rattle.resolve.specs.declared.Look.{Look}
+use Rattle.resolve.specs.declared.Looked.{Looked}
+use Rattle.levels.specs.Tables.{Names, namesOf}
+use Rattle.levels.specs.Walk as levels
+use Rattle.levels.specs.declared.Under.{Under as LevelUnder}
+use Rattle.levels.specs.declared.steps.Step.{Step as LevelStep}
 use Rattle.standing.specs.Standing.{itselves}
-use Rattle.skimming.specs.Kept.{KeptWorth, KeptWorths}
-use Rattle.skimming.specs.declared.Place.{Place}
-use Rattle.tables.specs.Serves.{Serves}
-use Rattle.asking.specs.declared.Args.{Args}
-use Rattle.asking.specs.declared.Scope.{Scope}
+use Rattle.skimming.specs.Skims as causes
+use Rattle.skimming.specs.declared.Step.{Step as CauseStep}
 use Rattle.asking.specs.declared.Walked.{Walked}
+use Rattle.asking.specs.declared.steps.Scope.{Scope}
+use Rattle.asking.specs.declared.steps.Step.{Step}
+use Rattle.asking.specs.declared.walk.Under.{Under}
 
--- a token's level, by a table that holds no more than its own number
-abbrev pub askedLevel : List ℕ → List ℕ → List ℕ → Scene → List ℕ → ℕ → ℕ → Token → List ℕ → ℕ
-askedLevel names facts cs S v bits at t ls = sixLevel (numberIn names facts cs t ∷ []) S 0 v bits 0 t ls
+-- the table that would stand beside the bytes s: the number of what each of their tokens means, where it stands
+unfoldable pub numbersIn : List ℕ → List ℕ → List ℕ → List ℕ → List ℕ
+numbersIn names facts cs s = map (λ i. numberIn names facts cs (tokenAt s i)) (numbersFrom 0 (length s))
 
-abbrev pub askedLevels : List ℕ → List ℕ → List ℕ → Scene → List ℕ → Algebra ℕ ℕ (List ℕ)
-askedLevels names facts cs S v = record { token = askedLevel names facts cs S v; start = replicate width 0; push = λ l ls. l ∷ take 5 ls; inner = scope }
+abbrev pub namesIn : List ℕ → List ℕ → List ℕ → List ℕ → List ℕ → Names
+namesIn names facts cs words s = namesOf (numbersIn names facts cs s) itselves words 0
 
--- the levels of at most three arguments, as six
-abbrev pub argumentLevels : Args → List ℕ
-argumentLevels a = a .first ∷ a .second ∷ a .third ∷ 0 ∷ 0 ∷ 0 ∷ []
+-- what a step says of causes 9 and 10, and of the level
+abbrev pub causesOf : Step → CauseStep
+causesOf r = record { kept = r .kept; count = r .count; inner = r .inner .bound; looked = r .looked }
 
--- r is the level x
-pub record LevelOf (r x : ℕ) : Type 0 where
-  pub same : r ≡ x
-  pub low : r ≤ 4
+abbrev pub levelOf : Step → LevelStep
+levelOf r = record { ok = r .kept; count = r .count; inner = r .inner .bits; labels = r .labels; form = r .form; next = r .looked .next }
 
--- they are levels
-pub record Low (a : Args) : Type 0 where
-  pub first : a .first ≤ 4
-  pub second : a .second ≤ 4
-  pub third : a .third ≤ 4
+-- the two put side by side
+pub record Beside (t : LevelStep) (bound : ℕ) (a : Looked) (r : Step) : Type 0 where
+  pub causes : causesOf r ≡ record { kept = t .ok; count = t .count; inner = bound; looked = a }
+  pub level : levelOf r ≡ record { ok = t .ok; count = t .count; inner = t .inner; labels = t .labels; form = t .form; next = a .next }
 
--- whether all are 0
-unfoldable pub zeroLevels : Args → Bool
-zeroLevels a = cond (ltb 0 (a .first)) false (cond (ltb 0 (a .second)) false (eqb (a .third) 0))
+-- a name of k arguments that means what `look` says, wherever it stands
+pub record NamedBy (words : List ℕ) (look : Look) (k bits l f x : ℕ) (r : LevelStep) : Type 0 where
+  pub anywhere : (refs : List ℕ) (at : ℕ) → getD refs at 0 ≡ numberOf look → levels.Named (namesOf refs itselves words 0) k at bits l f x r
 
--- whether a row of k arguments, one or two, takes these levels
-unfoldable pub rowTakes : ℕ → ℕ → ℕ → ℕ → Bool
-rowTakes c k x y = takes (demandOf (maskBitsOf c 0)) x && cond (eqb k 1) true (takes (demandOf (maskBitsOf c 1)) y)
+-- a token that means what `look` says, if it is a name
+pub record Told (words : List ℕ) (look : Look) (t : Token) (bits l f x : ℕ) (r : LevelStep) : Type 0 where
+  pub anywhere : (refs : List ℕ) (at : ℕ) → (isName t ≡ true → getD refs at 0 ≡ numberOf look)
+      → levels.Tokened (namesOf refs itselves words 0) t at bits l f x r
 
--- the answers to no, one, two and three arguments
-abbrev pub noneOf : Bool → ℕ → Args
-noneOf kept at = record { kept = kept; unknown = false; next = at; first = 0; second = 0; third = 0; miscounted = false }
+-- the same, and what is known after it from what a knows before, x being the position after it
+pub record Over (names facts cs words : List ℕ) (p : ℕ) (t : Token) (e : Scope) (l f : ℕ) (a : Looked) (x : ℕ) (r : Step) : Type 0 where
+  pub heads : causes.Heads names facts cs p (e .bound) t (record { next = x; unknown = a .unknown; miscounted = a .miscounted }) (r .looked)
+  pub bound : r .inner .bound ≡ inside t (e .bound)
+  pub told : Told words (lookIn names facts cs t) t (e .bits) l f x (levelOf r)
 
-abbrev pub oneOf : Walked → Args
-oneOf a = record { kept = true; unknown = a .unknown; next = a .next; first = a .level; second = 0; third = 0; miscounted = a .miscounted }
+-- a parameter, p being known
+pub record ParameterAt (p i : ℕ) (e : Scope) (l f : ℕ) (a : Looked) (x : ℕ) (r : Step) : Type 0 where
+  pub causes : causes.Leaf (e .bound) x (leb p i) a (causesOf r)
+  pub level : levels.Plain 0 (Parameter i) (e .bits) l f x (levelOf r)
 
-abbrev pub twoOf : Walked → Walked → Args
-twoOf a b = record {
-  kept = true;
-  unknown = a .unknown || b .unknown;
-  next = b .next;
-  first = a .level;
-  second = b .level;
-  third = 0;
-  miscounted = a .miscounted || b .miscounted;
-}
+-- a built-in, where its code exists
+pub record CodeAt (code : ℕ) (e : Scope) (l f : ℕ) (a : Looked) (x : ℕ) (r : Step) : Type 0 where
+  pub lost : r .kept ≡ false → (arityOf code ≡ noCode) × (r .count ≡ 0) × (r .inner .bound ≡ e .bound)
+  pub there : r .kept ≡ true → (arityOf code ≡ noCode → ⊥)
+  pub count : r .kept ≡ true → r .count ≡ arityOf code
+  pub bound : r .kept ≡ true → r .inner .bound ≡ inside (BuiltIn code) (e .bound)
+  pub known : r .kept ≡ true → (r .looked .next ≡ x) × (r .looked .unknown ≡ a .unknown) × (r .looked .miscounted ≡ a .miscounted)
+  pub level : r .kept ≡ true → levels.Built code (e .bits) l f x (levelOf r)
 
-abbrev pub threeOf : Walked → Walked → Walked → Args
-threeOf a b c = record {
-  kept = true;
-  unknown = a .unknown || (b .unknown || c .unknown);
-  next = c .next;
-  first = a .level;
-  second = b .level;
-  third = c .level;
-  miscounted = a .miscounted || (b .miscounted || c .miscounted);
-}
+-- A step over the token at the position that a has reached, under label l, in a scope e: what skimming says of it; and if it keeps the limits,
+-- what it adds to the form.
+pub record Steps (names facts cs words : List ℕ) (p : ℕ) (s : List ℕ) (e : Scope) (l form : ℕ) (a : Looked) (r : Step) : Type 0 where
+  pub causes : causes.Steps names facts cs p (e .bound) s a (causesOf r)
+  pub level : r .kept ≡ true → levels.Steps (namesIn names facts cs words s) s (a .next) (e .bits) l form (levelOf r)
 
--- the answer of a token with that level and those causes at it
-abbrev pub answered : ℕ → Bool → Bool → Args → Walked
-answered l u m a = record { kept = true; unknown = u || a .unknown; next = a .next; level = l; miscounted = m || a .miscounted }
+-- what arguments inherit, as far as their level depends on it
+abbrev pub underOf : Under → LevelUnder
+underOf u = record { around = u .around .bits; within = u .within .bits; label = u .label; labels = u .labels }
 
--- What a walk answers of an expression: its level, and causes 9 and 10 where p parameters are known.
-pub record Judged (names facts cs words v : List ℕ) (p : ℕ) (e : Scope) (x : Found) (w : Walked) : Type 0 where
-  pub low : w .level ≤ 4
-  pub level : KeptWorth (askedLevels names facts cs (sceneOf itselves words) v) (e .bits) x (w .kept) (w .level) (w .next)
-  pub unknown : KeptWorth (searching (unknownIn names facts cs p)) (e .bound) x (w .kept) (w .unknown) (w .next)
-  pub miscounted : KeptWorth (searching (miscountedIn names facts cs)) (e .bound) x (w .kept) (w .miscounted) (w .next)
+-- What the walk answers of an argument list: whether it keeps the limits and causes 9 and 10, as skimming has it, where p parameters are known;
+-- and if it keeps them, the form, to which each argument's level is added.
+pub record AllJudged (names facts cs words : List ℕ) (p : ℕ) (s : List ℕ) (u : Under) (form : ℕ) (x : Founds) (w : Walked) : Type 0 where
+  pub causes : causes.SkimsAll names facts cs p (u .around .bound) (u .within .bound) x (w .kept) (w .looked)
+  pub level : w .kept ≡ true → levels.AddsAll (namesIn names facts cs words s) (underOf u) form x (w .form) (w .looked .next)
 
--- of the expression that the bytes s begin with
-abbrev pub JudgedFirst : List ℕ → List ℕ → List ℕ → List ℕ → List ℕ → ℕ → List ℕ → Walked → Type 0
-JudgedFirst names facts cs words v p s w = Judged names facts cs words v p (record { bits = 0; bound = 0 }) (exprAt maxNesting s 0) w
-
--- and of an argument list, the last of it in another scope
-pub record AllJudged (names facts cs words v : List ℕ) (p : ℕ) (outer last : Scope) (x : Founds) (a : Args) : Type 0 where
-  pub low : Low a
-  pub level : KeptWorths (askedLevels names facts cs (sceneOf itselves words) v) (outer .bits) (last .bits) x (a .kept) (argumentLevels a) (a .next)
-  pub unknown : KeptWorths (searching (unknownIn names facts cs p)) (outer .bound) (last .bound) x (a .kept) (a .unknown) (a .next)
-  pub miscounted : KeptWorths (searching (miscountedIn names facts cs)) (outer .bound) (last .bound) x (a .kept) (a .miscounted) (a .next)
-
--- what a token that means what the context says answers over arguments that keep the limits
-pub record Headed (names facts cs words v : List ℕ) (p : ℕ) (e : Scope) (t : Token) (a : Args) (w : Walked) : Type 0 where
-  pub kept : w .kept ≡ true
-  pub low : w .level ≤ 4
-  pub level : w .level ≡ askedLevel names facts cs (sceneOf itselves words) v (e .bits) 0 t (argumentLevels a)
-  pub unknown : w .unknown ≡ (unknownIn names facts cs p (e .bound) 0 t || a .unknown)
-  pub miscounted : w .miscounted ≡ (miscountedIn names facts cs (e .bound) 0 t || a .miscounted)
-  pub next : w .next ≡ a .next
-
--- the same of a token that is no name, whatever the names mean
-pub record PlainAnswered (v : List ℕ) (p : ℕ) (e : Scope) (t : Token) (a : Args) (w : Walked) : Type 0 where
-  pub headed : (names facts cs words : List ℕ) → Headed names facts cs words v p e t a w
-
--- the lent arrays serve a walk
-pub record Ready (names contexts columns table nexts words v : List ℕ) (p : Place) : Type 0 where
-  pub tables : Serves names contexts columns table nexts (p .from) (p .end)
-  pub forms : length words ≡ tableWords
-  pub levels : length v ≤ width
-
--- the scope of a token's last argument
-pub record Inside (t : Token) (e r : Scope) : Type 0 where
-  pub bits : Binds t (e .bits) (r .bits)
-  pub bound : r .bound ≡ inside t (e .bound)
+-- and of the expression that the bytes s begin with
+pub record Judged (names facts cs words : List ℕ) (p : ℕ) (s : List ℕ) (w : Walked) : Type 0 where
+  pub causes : causes.Skims names facts cs p 0 (exprAt maxNesting s 0) (w .kept) (w .looked)
+  pub level : w .kept ≡ true → levels.TextForm (namesIn names facts cs words s) s 0 (w .form)
 
 -- room for as many bound variables more as there is nesting left
-pub record Roomy (nest : ℕ) (e : Scope) : Type 0 where
-  pub bits : Room nest (e .bits)
-  pub bound : e .bound + nest < wordCount
+pub record Roomy (nest : ℕ) (u : Under) : Type 0 where
+  pub bits : levels.Fits nest (underOf u)
+  pub around : u .around .bound + nest < wordCount
+  pub within : u .within .bound + nest < wordCount

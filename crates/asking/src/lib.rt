@@ -1,8 +1,7 @@
 // The level query's expression: "judged like a THEOREM field with its parameters, without cause 12 and of any length", at the end of a
 // module. It may be longer than any file, so no table stands beside it: each name is looked up where it stands.
-pub mod heads;
-pub mod over;
 pub mod reading;
+pub mod steps;
 pub mod walk;
 
 ghost use mathlib.Core.Path.{_≡_};
@@ -16,6 +15,8 @@ use crate::reading::limit_cause;
 use crate::walk::judge;
 use context::Counts;
 use context::lookup::find_module;
+use forms::card::level;
+use resolve::Looked;
 
 // The reply: a level, 0 to 4; or the cause of a refusal and its place.
 pub enum Asked {
@@ -23,53 +24,34 @@ pub enum Asked {
     Refused(u8, usize),
 }
 
-// What an expression inherits: the levels of the bound variables, 0 or 1 each, a bit for each, the nearest lowest; and how many there are.
-pub struct Scope {
-    pub bits: u64,
-    pub bound: usize,
-}
-
-// Of an expression: whether it keeps the limits; and if it does, its level, whether its names are known and rightly counted, and the position
-// after it. The two causes stand apart: side by side they would be read as one word, which waits until both are in memory.
+// Whether an expression keeps the limits; and if it does, the form of its level, whether its names are known and rightly counted, and the position
+// after it.
 pub struct Walked {
     pub kept: bool,
-    pub unknown: bool,
-    pub next: usize,
-    pub level: u8,
-    pub miscounted: bool,
-}
-
-// The same of at most three arguments, level 0 for those that there are not.
-pub struct Args {
-    pub kept: bool,
-    pub unknown: bool,
-    pub next: usize,
-    pub first: u8,
-    pub second: u8,
-    pub third: u8,
-    pub miscounted: bool,
+    pub form: u64,
+    pub looked: Looked,
 }
 
 // The reply to bytes that are one expression and keep the limits, by what a walk found. The place of a refusal is the number of fields.
-fn kept_reply(w: Walked, fields: usize) -> Asked
-    ensures { λ r. ⌜ r ≡ keptReply w fields ⌝ }
+fn kept_reply(levels: &[u8], w: Walked, fields: usize) -> Asked
+    ensures { λ r. ⌜ r ≡ keptReply (now (levels .entry)) w fields ⌝ }
 {
-    if w.unknown {
+    if w.looked.unknown {
         return Asked::Refused(9, fields);
     }
-    if w.miscounted {
+    if w.looked.miscounted {
         return Asked::Refused(10, fields);
     }
-    Asked::Level(w.level)
+    Asked::Level(level(w.form, levels))
 }
 
 // The same to any bytes: a walk that keeps the limits tells by its end whether they are one expression, and only another needs them read apart.
-fn reply_of(expr: &[u8], w: Walked, fields: usize) -> Asked
-    ensures { λ r. ⌜ r ≡ replyOf (now (expr .entry)) w fields ⌝ }
+fn reply_of(expr: &[u8], levels: &[u8], w: Walked, fields: usize) -> Asked
+    ensures { λ r. ⌜ r ≡ replyOf (now (levels .entry)) (now (expr .entry)) w fields ⌝ }
 {
     if w.kept {
-        if w.next == expr.len() {
-            return kept_reply(w, fields);
+        if w.looked.next == expr.len() {
+            return kept_reply(levels, w, fields);
         }
         return Asked::Refused(3, fields);
     }
@@ -88,21 +70,11 @@ fn walked_reply(
     m: usize,
     fields: usize,
 ) -> Asked
-    requires { ⌜ (m ≤ maxModules) × (length (now words) ≡ tableWords) × (levelsCause (now levels) (now expr) ≡ 0) ⌝ }
+    requires { ⌜ (m ≤ maxModules) × (levelsCause (now levels) (now expr) ≡ 0) ⌝ }
     ensures { λ r. ⌜ AsksIn (now (names .entry)) (now (facts .entry)) (now (contexts .entry)) (now (heads .entry)) (now (words .entry)) m fields (now (levels .entry)) (now (expr .entry)) r ⌝ }
 {
-    let w = judge(
-        expr,
-        contexts,
-        names,
-        facts,
-        heads,
-        words,
-        levels,
-        m,
-        levels.len(),
-    );
-    reply_of(expr, w, fields)
+    let w = judge(expr, contexts, names, facts, heads, words, m, levels.len());
+    reply_of(expr, levels, w, fields)
 }
 
 // The reply in module m.
@@ -117,7 +89,7 @@ fn reply_in(
     m: usize,
     fields: usize,
 ) -> Asked
-    requires { ⌜ (m ≤ maxModules) × (length (now words) ≡ tableWords) ⌝ }
+    requires { ⌜ m ≤ maxModules ⌝ }
     ensures { λ r. ⌜ AsksIn (now (names .entry)) (now (facts .entry)) (now (contexts .entry)) (now (heads .entry)) (now (words .entry)) m fields (now (levels .entry)) (now (expr .entry)) r ⌝ }
 {
     let cause = levels_cause(expr, levels);

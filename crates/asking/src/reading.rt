@@ -13,7 +13,7 @@ fn level_above(levels: &[u8]) -> bool
 {
     let mut i: usize = 0;
     while i < levels.len() {
-        if rows::Rows::INCORRECT < levels[i] {
+        if (Limits::LEVELS as u8) <= levels[i] {
             return true;
         }
         i += 1;

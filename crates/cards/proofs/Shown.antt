@@ -15,12 +15,11 @@ use Rattle.rules.specs.Run.{card, cardsFrom}
 use Rattle.rules.specs.State.{Added, State, cardLevel, noDefinition, paramsOf}
 use Rattle.laws.proofs.Within.{Within}
 use Rattle.texts.specs.Text.{Declarations}
-use Rattle.forms.specs.Forms.{levelAt}
-use Rattle.forms.specs.Tables.{formAt}
+use Rattle.forms.specs.Forms.{formAt, levelAt}
 use Rattle.context.specs.Holds.{Holds}
 use Rattle.context.specs.Store.{Store, kindAt}
 use Rattle.context.specs.declared.Counts.{Counts}
-use Rattle.levels.proofs.Named.{numbers-at}
+use Rattle.levels.proofs.Numbered.{numbers-at}
 use Rattle.levels.specs.Tables.{sceneOf}
 use Rattle.text_levels.proofs.OwnWorld.{Shows}
 use Rattle.standing.specs.Standing.{itselves}

@@ -5,8 +5,7 @@ use Prim.Native.Nat.{ℕ, zero, suc}
 use lib.Dec.{ltb}
 use Rattle.limits.specs.Limits.{maxArity}
 use Rattle.theory.specs.Card.{cardOf}
-use Rattle.forms.specs.Forms.{levelAt}
-use Rattle.forms.specs.Tables.{formAt}
+use Rattle.forms.specs.Forms.{formAt, levelAt}
 use Rattle.context.specs.Store.{kindAt}
 
 -- the parameter count of definition g; none has more than the limit

@@ -11,7 +11,7 @@ ghost use mathlib.Core.Bool.{cond};
 ghost use lib.Dec.{ltb};
 use context::lists::number_at;
 use forms::card::fill;
-use forms::table::load;
+use levels::names::form_at;
 use limits::Limits;
 
 // "set the first 32,000 bytes to 0; bytes beyond stay"
@@ -41,7 +41,7 @@ pub fn fill_cards(facts: &[u16], words: &[u64], n: usize, cards: &mut [u8])
 {
     let mut g: usize = 0;
     while g < n {
-        let f = load(words, g);
+        let f = form_at(words, g);
         let k = within(number_at(facts, Limits::COLUMNS * g));
         fill(f, k, cards, Limits::CARD_BYTES * g);
         g += 1;

@@ -11,8 +11,7 @@ use Prim.Native.Nat.{_+_, _-_, _<_, _≤_, ℕ}
 use Rattle.limits.specs.Limits.{maxArity, maxDeclarations, maxDefinitions}
 use Rattle.rules.specs.State.{State}
 use Rattle.texts.specs.Text.{Declarations}
-use Rattle.forms.specs.declared.Form.{Form}
-use Rattle.levels.specs.Tables.{tableWords}
+use Rattle.levels.specs.Tables.{namesOf, tableWords}
 use Rattle.levels.specs.Walk.{TextForm}
 use Rattle.context.specs.Store.{Store, fieldCode, firstAt, instanceKind, kindAt, linkAt, sourceAt}
 use Rattle.context.specs.declared.Counts.{Counts}
@@ -128,16 +127,15 @@ module _ (file refs words : List ℕ) (v : Store) (declared : List ℕ) (n d : �
           (walked-on file refs words v declared n d c s rs decls end ready there (along .room) numbers inner outer cur (now-walked c s rs decls end ready there own) t numbers′ inner′
           (subst (λ (o : ℕ). LinkEntered file refs v declared n outer o numbers numbers′ inner inner′) q x)))
 
-  pub along-whole : (r : Form) (at : ℕ) → stepFits (v .facts) outer cur ≡ false → TextForm refs numbers inner file outer at r → at ≡ firstAt (v .facts) cur
+  pub along-whole : (r : ℕ) (at : ℕ) → stepFits (v .facts) outer cur ≡ false → TextForm (namesOf refs numbers inner outer) file at r → at ≡ firstAt (v .facts) cur
       → WorldForm file refs words v declared n d r
   along-whole r at h form here =
       record {
-        fit = form .fit;
         right = λ c s rs decls end ready there below own. ends c s rs decls end ready there own below (step c s rs decls end ready there own);
       }
     where
-      f : TextForm refs numbers inner file outer (firstAt (v .facts) cur) r
-      f = subst (λ (m : ℕ). TextForm refs numbers inner file outer m r) here form
+      f : TextForm (namesOf refs numbers inner outer) file (firstAt (v .facts) cur) r
+      f = subst (λ (m : ℕ). TextForm (namesOf refs numbers inner outer) file m r) here form
 
       ends : (c : Counts) (s : State) (rs : List Row) (decls : Declarations) (end : ℕ) (ready : Ready file refs v declared n c s rs decls end) (there : d < c .definitions)
           (own : DeclaredForms words decls) → FormsBelow words s d → Own v file refs decls s end (getD rs cur noRow) cur ⊎ Through v c file refs decls rs end (getD rs cur noRow) cur
@@ -189,6 +187,6 @@ pub link-at : (file refs : List ℕ) (v : Store) (declared : List ℕ) (n outer 
 link-at file refs v declared n outer o cur numbers numbers′ inner inner′ x q =
     subst (λ (y : ℕ). LinkEntered file refs v declared n outer y numbers numbers′ inner inner′) q x
 
-pub form-copied : (file refs words inner : List ℕ) (v : Store) (declared : List ℕ) (n d : ℕ) (r : Form) → WorldForm file refs inner v declared n d r → inner ≡ words
+pub form-copied : (file refs words inner : List ℕ) (v : Store) (declared : List ℕ) (n d : ℕ) (r : ℕ) → WorldForm file refs inner v declared n d r → inner ≡ words
     → WorldForm file refs words v declared n d r
 form-copied file refs words inner v declared n d r f e = subst (λ (y : List ℕ). WorldForm file refs y v declared n d r) e f

@@ -6,20 +6,17 @@ use mathlib.Core.Logic.{_⊎_, _≢_, inl, inr}
 use mathlib.Core.Path.{_∙_, _≡_, ap, ap₂, refl, subst, sym}
 use lib.Dec.{eqb}
 use lib.ListN.{length, replicate}
-use lib.Seq.{length-paste}
 use native.Mathlib.Decide.{ℕ-discrete}
 use native.Mathlib.Numerals.{add-one}
 use native.Mathlib.Omega.{arith}
-use Prim.Native.Nat.{_+_, _*_, _<_, _≤_, suc, zero, ℕ}
+use Prim.Native.Nat.{_+_, _<_, _≤_, suc, zero, ℕ}
 use Rattle.limits.specs.Limits.{maxDefinitions}
 use Rattle.theory.specs.Level.{IsLevel, verdict}
 use Rattle.theory.specs.Lists.{All, any, numbersFrom}
 use Rattle.rules.specs.State.{State, cardLevel, paramsOf, zeros}
 use Rattle.texts.specs.Text.{Declarations}
-use Rattle.forms.specs.declared.Form.{Form}
-use Rattle.forms.specs.Forms.{levelAt}
-use Rattle.forms.specs.Tables.{formAt, stored, words as formWords}
-use Rattle.forms.proofs.Tables.{load-other}
+use Rattle.forms.specs.Forms.{formAt, levelAt, stored}
+use Rattle.forms.proofs.Tables.{load-other, load-same, stored-length}
 use Rattle.levels.specs.Tables.{tableWords}
 use Rattle.context.specs.Store.{Store}
 use Rattle.context.specs.declared.Counts.{Counts}
@@ -49,10 +46,6 @@ any-last p i (suc k) =
     ap (λ (b : Bool). p i || b) (any-last p (suc i) k ∙ ap (λ (m : ℕ). any p (numbersFrom (suc i) k) || p m) (omega arith))
     ∙ or-assoc (p i) (any p (numbersFrom (suc i) k)) (p (i + suc k))
 
-stored-size : (words words′ : List ℕ) (d : ℕ) (f : Form) → words′ ≡ stored words d f → length words ≡ tableWords → d < maxDefinitions → length words′ ≡ length words
-unfolding stored
-stored-size words words′ d f q long h = ap length q ∙ length-paste words (d * 4) (formWords f) 4 (omega arith) (omega arith)
-
 turned : (l : ℕ) → eqb l 4 ≡ eqb 4 l
 turned l = go (eqb l 4) refl (eqb 4 l) refl
   where
@@ -63,15 +56,15 @@ turned l = go (eqb l 4) refl (eqb 4 l) refl
     go false p false q = p ∙ sym q
 
 module _ (file refs : List ℕ) (v : Store) (declared : List ℕ) (n : ℕ) where
-  pub form-stored : (d : ℕ) (words words′ : List ℕ) (f : Form) (l : ℕ) (r : Bool) → WorldForm file refs words v declared n d f → words′ ≡ stored words d f
-      → formAt words′ d ≡ f → length words ≡ tableWords → d < maxDefinitions → ((k : ℕ) → l ≡ levelAt f (replicate k 0)) → r ≡ eqb l 4
-      → FormBrought file refs v declared n d words words′ r
-  form-stored d words words′ f l r form e at long h level answer =
+  pub form-stored : (d : ℕ) (words : List ℕ) (f l : ℕ) (r : Bool) → WorldForm file refs words v declared n d f → length words ≡ tableWords → d < maxDefinitions
+      → ((k : ℕ) → l ≡ levelAt f (replicate k 0)) → r ≡ eqb l 4 → FormBrought file refs v declared n d words (stored words d f) r
+  form-stored d words f l r form long h level answer =
+      let at : formAt (stored words d f) d ≡ f = load-same words d f (omega arith) in
       record {
-        size = stored-size words words′ d f e long h;
+        size = stored-length words d f;
         form = subst (WorldForm file refs words v declared n d) (sym at) form;
-        others = λ g q. ap (λ (t : List ℕ). formAt t g) e ∙ load-other words d g f (omega arith) q;
-        answer = λ k. answer ∙ turned l ∙ ap verdict (level k ∙ ap (λ (x : Form). levelAt x (zeros k)) (sym at));
+        others = λ g q. load-other words d g f q;
+        answer = λ k. answer ∙ turned l ∙ ap verdict (level k ∙ ap (λ (x : ℕ). levelAt x (zeros k)) (sym at));
       }
 
   pub bring-start : (first : ℕ) (words : List ℕ) → BroughtForms file refs v declared n first 0 words words false
@@ -98,7 +91,7 @@ module _ (file refs : List ℕ) (v : Store) (declared : List ℕ) (n : ℕ) wher
       before = x .right c s rs decls end ready (omega arith) below own
 
       declarations : DeclaredForms words′ decls
-      declarations = λ d us h l a. ap (λ (f : Form). levelAt f us) (x .others (maxDefinitions + d) (inr (omega (arith, ready .few)))) ∙ own d us h l a
+      declarations = λ d us h l a. ap (λ (f : ℕ). levelAt f us) (x .others (maxDefinitions + d) (inr (omega (arith, ready .few)))) ∙ own d us h l a
 
       here : FormOf s (first + i) (formAt words″ (first + i))
       here = y .form .right c s rs decls end ready (omega arith) (before .0) declarations
@@ -107,7 +100,7 @@ module _ (file refs : List ℕ) (v : Store) (declared : List ℕ) (n : ℕ) wher
           → levelAt (formAt words″ g) us ≡ cardLevel s g us
       by-number g us h l a (yes q) =
           ap (λ (m : ℕ). levelAt (formAt words″ m) us) q ∙ here us (l ∙ ap (paramsOf s) q) a ∙ ap (λ (m : ℕ). cardLevel s m us) (sym q)
-      by-number g us h l a (no q) = ap (λ (f : Form). levelAt f us) (y .others g q) ∙ before .0 g us (omega arith) l a
+      by-number g us h l a (no q) = ap (λ (f : ℕ). levelAt f us) (y .others g q) ∙ before .0 g us (omega arith) l a
 
       forms : FormsBelow words″ s (first + (i + 1))
       forms g us h l a = by-number g us h l a (ℕ-discrete g (first + i))

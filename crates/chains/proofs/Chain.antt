@@ -22,10 +22,9 @@ use Rattle.rules.specs.State.{State, cardLevel, definitionAt, meanings, paramsO
 use Rattle.laws.proofs.Invariant.{arity-known}
 use Rattle.laws.proofs.Sound.{all-formed}
 use Rattle.texts.specs.Text.{Declarations, noDeclaration}
-use Rattle.forms.specs.declared.Form.{Form}
-use Rattle.forms.specs.Forms.{levelAt, width}
-use Rattle.forms.specs.Tables.{formAt}
-use Rattle.forms.proofs.Combining.{level-le}
+use Rattle.forms.specs.Forms.{formAt, levelAt, width}
+use Rattle.forms.proofs.Forms.{at-low}
+use Rattle.levels.specs.Tables.{namesOf}
 use Rattle.levels.specs.Walk.{TextForm}
 use Rattle.context.specs.Store.{Store, codesOf, fieldCode, firstAt, instanceKind, kindAt, linkAt, orderOf}
 use Rattle.context.specs.declared.Counts.{Counts}
@@ -58,7 +57,7 @@ abbrev pub tableMeaning : List ℕ → ℕ → List ℕ → ℕ
 tableMeaning words g us = levelAt (formAt words g) us
 
 good-table : (words : List ℕ) (g : ℕ) (us : List ℕ) → All IsLevel us → IsLevel (tableMeaning words g us)
-good-table words g us a = level-le (formAt words g) us
+good-table words g us a = at-low (formAt words g) us
 
 -- The walk has come from definition d to definition cur, through the instances of `world`, which have `outer` parameters.
 pub record Walked (words : List ℕ) (s : State) (rs : List Row) (bs : List Run) (decls : Declarations) (d : ℕ) (numbers inner : List ℕ) (outer cur : ℕ) : Type 0 where
@@ -253,9 +252,9 @@ module _ (file refs words : List ℕ) (v : Store) (declared : List ℕ) (n d : �
               record {
                 defined = λ g i us a.
                     ap (λ (h : ℕ). levelAt (formAt inner′ h) us) (numbered .each g i)
-                    ∙ ap (λ (f : Form). levelAt f us) (unchanged (numberIn (l ∷ w) g) (number-few g i));
+                    ∙ ap (λ (f : ℕ). levelAt f us) (unchanged (numberIn (l ∷ w) g) (number-few g i));
                 declared = λ e i pre us p q a b.
-                    ap (λ (f : Form). levelAt f (pre ++ us)) (x .replaced .declarations e (omega (arith, i .0, ready .numbered)))
+                    ap (λ (f : ℕ). levelAt f (pre ++ us)) (x .replaced .declarations e (omega (arith, i .0, ready .numbered)))
                     ∙ substitutes-right G (good-table words) decls (NamedIn decls w) (DefinedIn w) w Ss (walked .low) (aroundLink file refs v numbers inner) site
                     (walked .around) (walked .shows) ar (fewer l) (codesOf v (sh .q)) declared (x .empty) (x .next) n refl substituted code-of few-params e
                     (omega (arith, i .0, ready .numbered)) (record { named = ready .codes .named e (i .0); kind = ready .codes .kind e (i .0) })
@@ -329,7 +328,7 @@ module _ (file refs words : List ℕ) (v : Store) (declared : List ℕ) (n d : �
               (uses-module ds lawful bs (ready .worlds .book .disjoint) (worldOf rs d) (x .source) d (x .comes) known));
         }
 
-    pub walked-whole : (f : Form) → TextForm refs numbers inner file outer (firstAt (v .facts) cur) f → (ρ : List ℕ) → length ρ ≡ paramsOf s d → All IsLevel ρ
+    pub walked-whole : (f : ℕ) → TextForm (namesOf refs numbers inner outer) file (firstAt (v .facts) cur) f → (ρ : List ℕ) → length ρ ≡ paramsOf s d → All IsLevel ρ
         → levelAt f ρ ≡ cardLevel s d ρ
     walked-whole f form ρ size lows =
         let wp = world-params s rs (ready .worlds) (ready .sound) d inside in
@@ -342,7 +341,7 @@ module _ (file refs words : List ℕ) (v : Store) (declared : List ℕ) (n d : �
         written-level G decls (NamedIn decls (walked .world)) (DefinedIn (walked .world)) (walked .world) (walked .tables) numbers inner (walked .shows) ρ lows m long refs
         (keeps-tables G (good-table words) (walked .world) (walked .tables) (walked .low) (take (paramsIn (walked .world)) ρ) (take-levels (paramsIn (walked .world)) ρ lows))
         ar file (firstAt (v .facts) cur) (k .next) (k .text) f u short
-        (subst (λ (P : ℕ). TextForm refs numbers inner file P (firstAt (v .facts) cur) f) (walked .around) form) (k .stands) (k .kept) (k .names) (k .formed) (k .same)
+        (subst (λ (P : ℕ). TextForm (namesOf refs numbers inner P) file (firstAt (v .facts) cur) f) (walked .around) form) (k .stands) (k .names) (k .formed) (k .same)
         ∙ ap (λ (x : World). evalAt (byTables longWay G x (walked .tables)) (paramsIn x) u ρ) (sym whole)
         ∙ sym (definition-by-tables s rs (ready .worlds) (ready .sound) d inside longWay IsLevel G means (walked .tables)
         (subst (λ (x : World). Right longWay IsLevel G x (walked .tables)) (sym whole) (walked .right)) (ready .named d inside) ρ size lows)

@@ -8,9 +8,8 @@ use Prim.Native.Nat.{_<_, _≤_, ℕ}
 use Rattle.limits.specs.Limits.{maxDefinitions}
 use Rattle.rules.specs.State.{State}
 use Rattle.texts.specs.Text.{Declarations}
-use Rattle.forms.specs.Forms.{levelAt}
-use Rattle.forms.specs.Tables.{formAt}
-use Rattle.levels.proofs.Named.{numbers-at}
+use Rattle.forms.specs.Forms.{formAt, levelAt}
+use Rattle.levels.proofs.Numbered.{numbers-at}
 use Rattle.levels.specs.Tables.{sceneOf}
 use Rattle.text_levels.proofs.OwnWorld.{Shows}
 use Rattle.standing.specs.Standing.{itselves}

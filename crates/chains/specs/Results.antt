@@ -10,9 +10,7 @@ use Rattle.theory.specs.Level.{IsLevel, verdict}
 use Rattle.theory.specs.Lists.{All, any, numbersFrom}
 use Rattle.rules.specs.State.{State, cardLevel, paramsOf, zeros}
 use Rattle.texts.specs.Text.{Declarations}
-use Rattle.forms.specs.declared.Form.{Form}
-use Rattle.forms.specs.Forms.{Fit, levelAt}
-use Rattle.forms.specs.Tables.{formAt}
+use Rattle.forms.specs.Forms.{formAt, levelAt}
 use Rattle.context.specs.Store.{Store}
 use Rattle.context.specs.declared.Counts.{Counts}
 use Rattle.worlds.specs.Rows.{Row}
@@ -24,12 +22,11 @@ pub record Itselves (numbers : List ℕ) : Type 0 where
   pub each : (g : ℕ) → g < maxDefinitions → getD numbers g 0 ≡ g
 
 -- r is the form of definition d
-abbrev pub FormOf : State → ℕ → Form → Type 0
+abbrev pub FormOf : State → ℕ → ℕ → Type 0
 FormOf s d r = (ρ : List ℕ) → length ρ ≡ paramsOf s d → All IsLevel ρ → levelAt r ρ ≡ cardLevel s d ρ
 
 -- r gives, whatever stands, the level of definition d, if the table has the forms of those below it and of the declarations
-pub record WorldForm (file refs words : List ℕ) (v : Store) (declared : List ℕ) (n d : ℕ) (r : Form) : Type 0 where
-  pub fit : Fit r
+pub record WorldForm (file refs words : List ℕ) (v : Store) (declared : List ℕ) (n d : ℕ) (r : ℕ) : Type 0 where
   pub right : (c : Counts) (s : State) (rs : List Row) (decls : Declarations) (end : ℕ) → Ready file refs v declared n c s rs decls end → d < c .definitions
       → FormsBelow words s d → DeclaredForms words decls → FormOf s d r
 

@@ -48,7 +48,7 @@ fn bring_form(
         n,
         d,
     );
-    forms::table::store(words, d, f);
+    words[d] = f;
     forms::card::level_at_zero(f) == 4
 }
 

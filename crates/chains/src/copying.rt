@@ -12,7 +12,7 @@ pub fn copy_forms(words: &[u64], inner: &mut [u64])
     ensures { λ r. ⌜ now (inner .exit) ≡ now (words .entry) ⌝ }
 {
     let mut j: usize = 0;
-    while j < 4 * (Limits::DEFINITIONS + Limits::DECLARATIONS) {
+    while j < Limits::DEFINITIONS + Limits::DECLARATIONS {
         let x = words[j];
         inner[j] = x;
         j += 1;

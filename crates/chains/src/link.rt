@@ -184,7 +184,7 @@ pub fn enter_link(
     requires { ⌜ (length (now numbers) ≡ maxDefinitions) × (length (now inner) ≡ tableWords) × (n ≤ maxDeclarations) × (outer ≤ maxArity) × (o ≤ 2 * wordCount) × (linkFits (now facts) outer o ≡ true) ⌝ }
     ensures { λ r. ⌜ LinkEntered (now (file .entry)) (now (refs .entry)) (store (now (names .entry)) (now (facts .entry)) (now (contexts .entry)) (now (orders .entry)) (now (heads .entry))) (now (declared .entry)) n outer o (now (numbers .entry)) (now (numbers .exit)) (now (inner .entry)) (now (inner .exit)) ⌝ }
 {
-    let mut next = [0u64; 4 * Limits::DECLARATIONS];
+    let mut next = [0u64; Limits::DECLARATIONS];
     link_substitutes(
         file,
         refs,

@@ -5,7 +5,6 @@ use crate::link::enter_link;
 use crate::link::link_fits;
 use context::Kinds;
 use context::lists::number_at;
-use forms::Form;
 use limits::Limits;
 ghost use mathlib.Core.Bool.{true};
 ghost use mathlib.Core.Path.{_≡_};
@@ -115,7 +114,7 @@ fn walk_chain(
     numbers: &mut [u16],
     inner: &mut [u64],
     d: usize,
-) -> Form
+) -> u64
     requires { ⌜ Itselves (now numbers) × (length (now inner) ≡ tableWords) × (n ≤ maxDeclarations) × (d < maxDefinitions) ⌝ }
     ensures { λ r. ⌜ WorldForm (now (file .entry)) (now (refs .entry)) (now (inner .entry)) (store (now (names .entry)) (now (facts .entry)) (now (contexts .entry)) (now (orders .entry)) (now (heads .entry))) (now (declared .entry)) n d r ⌝ }
 {
@@ -156,12 +155,12 @@ pub fn world_form(
     declared: &[u16],
     n: usize,
     d: usize,
-) -> Form
+) -> u64
     requires { ⌜ (length (now words) ≡ tableWords) × (n ≤ maxDeclarations) × (d < maxDefinitions) ⌝ }
     ensures { λ r. ⌜ WorldForm (now (file .entry)) (now (refs .entry)) (now (words .entry)) (store (now (names .entry)) (now (facts .entry)) (now (contexts .entry)) (now (orders .entry)) (now (heads .entry))) (now (declared .entry)) n d r ⌝ }
 {
     let mut numbers = [0u16; Limits::DEFINITIONS];
-    let mut inner = [0u64; 4 * (Limits::DEFINITIONS + Limits::DECLARATIONS)];
+    let mut inner = [0u64; Limits::DEFINITIONS + Limits::DECLARATIONS];
     number_all(&mut numbers);
     copy_forms(words, &mut inner);
     walk_chain(

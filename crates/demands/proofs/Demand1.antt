@@ -10,33 +10,25 @@ use Rattle.demands.proofs.Accepted.{accepted-obeys, accepted-told, chec
 use Rattle.demands.proofs.Demand2.{demand-2}
 use Rattle.demands.proofs.Told.{check-told, expand-told}
 use Rattle.demands.specs.Archive.{alikeTells, bodyTells, checkLeaves, checkTells, expandTells, expandWrites, levelTells, stateOf}
-use Rattle.demands.specs.Demand1.{Demand1, MemoryLeft, OneReply, OutputLeft, byteLeft, fileNumbers, full-result, refused-by-file, refused-by-query}
+use Rattle.demands.specs.Demand1.{Demand1, MemoryLeft, OneReply, OutputLeft, byteLeft, full-result, refused-by-file, refused-by-query}
 use Rattle.demands.specs.Replies.{AlikeReplied, BodyReplied, CheckReplied, ExpansionReplied, LevelReplied, QueryRefused, by-file, by-query}
 use Rattle.laws.proofs.Causes.{one-of}
 use Rattle.laws.proofs.CheckMemory.{byteAfter, check-memory}
 use Rattle.laws.proofs.FileRefusals.{not-refusal}
 use Rattle.laws.proofs.Outputs.{output-length, output-unchanged}
-use Rattle.laws.proofs.QueryNumbers.{expression-numbers, expressionNumbers, fault-numbers, faultNumbers}
+use Rattle.laws.proofs.QueryNumbers.{expression-numbers, file-numbers}
 use Rattle.laws.specs.Cards.{entryAt}
-use Rattle.laws.specs.Lawful.{adds}
-use Rattle.laws.specs.Queries.{AlikeRefused, BodyRefused, ExpansionRefused, LevelRefused, TermRefused, at-fault, no-module}
-use Rattle.laws.specs.Refused.{FileRefused, OneOf, at-field, little-memory, wrong-size}
+use Rattle.laws.specs.Queries.{AlikeRefused, BodyRefused, ExpansionRefused, LevelRefused, TermRefused, at-fault, expressionNumbers, no-module}
+use Rattle.laws.specs.Refused.{FileRefused, OneOf}
 use Rattle.limits.specs.Limits.{cardBytes}
 use Rattle.rules.specs.Run.{Outcome, andThen, checked, refusal, result}
-use Rattle.rules.specs.State.{State, start}
+use Rattle.rules.specs.State.{State}
 use Rattle.theory.specs.Lists.{All}
 
 -- NUMBERS
 -- a number of a short list is one of a longer
 longer-list : (ns ms : List ℕ) → All (OneOf ms) ns → (c : ℕ) → OneOf ns c → OneOf ms c
 longer-list ns ms a c t = one-of (OneOf ms) ns c a t
-
-file-number : (file lent : List ℕ) (c p : ℕ) → FileRefused file lent c p → OneOf fileNumbers c
-file-number file lent c p (little-memory l u v) = subst (OneOf fileNumbers) (sym u) tt
-file-number file lent c p (wrong-size l z u v) = subst (OneOf fileNumbers) (sym u) tt
-file-number file lent c p (at-field room there short a) =
-    longer-list faultNumbers fileNumbers (tt, (tt, (tt, (tt, (tt, (tt, (tt, (tt, (tt, (tt, (tt, (tt, (tt, (tt, tt)))))))))))))) c
-    (fault-numbers (adds start (a .before)) (a .rest) c (a .fault))
 
 module _ (s : State) (fields m n : ℕ) (levels bytes : List ℕ) where
   term-number : (numbers : List ℕ) → All (OneOf numbers) expressionNumbers → OneOf numbers 17 → (c p : ℕ) → TermRefused s fields m n levels bytes c p → OneOf numbers c
@@ -67,7 +59,7 @@ module _ {A : Type 0} (file lent : List ℕ) (Full : A → Type 0) (numbers : Li
       by-check (result k) e = by-reply k e reply refl
       by-check (refusal c p) e =
           let r = demand-2 .refuses file lent c p .0 e in
-          refused-by-file c p e (first c p r) (file-number file lent c p r) r
+          refused-by-file c p e (first c p r) (file-numbers file lent c p r) r
 
 checked-then : (file lent : List ℕ) (k : ℕ) → checkTells file lent ≡ result k → CheckReplied file lent k
 checked-then file lent k e =

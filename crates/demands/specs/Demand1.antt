@@ -16,14 +16,10 @@ use Rattle.demands.specs.Replies.{AlikeReplied, BodyReplied, CheckReplie
 use Rattle.laws.specs.Cards.{entryAt}
 use Rattle.laws.specs.Lawful.{Obeys}
 use Rattle.laws.specs.Queries.{AlikeRefused, BodyRefused, ExpansionRefused, LevelRefused}
-use Rattle.laws.specs.Refused.{FileRefused, OneOf}
+use Rattle.laws.specs.Refused.{FileRefused, OneOf, fileNumbers}
 use Rattle.limits.specs.Limits.{cardBytes, cardMemoryBytes}
 use Rattle.rules.specs.Run.{Outcome, refusal, result}
 use Rattle.rules.specs.State.{State}
-
--- the numbers of the file's own refusals
-abbrev pub fileNumbers : List ℕ
-fileNumbers = 1 ∷ 2 ∷ 3 ∷ 4 ∷ 5 ∷ 6 ∷ 7 ∷ 8 ∷ 9 ∷ 10 ∷ 11 ∷ 12 ∷ 13 ∷ 14 ∷ 15 ∷ 16 ∷ []
 
 -- ONE REPLY: "its full result or one numbered refusal". "Each call checks the file afresh": what a check of the file tells, lent the same memory, comes first. With each
 -- refusal stand its number, one of those that the operation has, and its cause and place: of the file (laws/specs/Refused), or the query's own (laws/specs/Queries; `Own s
@@ -36,7 +32,7 @@ pub data OneReply {A : Type 0} (file lent : List ℕ) (Full : A → Type 0) (num
       → Own (stateOf file) (length (o .fields)) c p → OneReply file lent Full numbers Own reply
 
 -- THE CARD MEMORY after a call, byte by byte, by what a check of the file tells. Accepted with k definitions: "A card is 125 bytes at 125 times the definition's
--- number"; "Acceptance changes no byte past the last card". Refused: 1 leaves all as it was; 2 to 16 "set the first 32,000 bytes to 0; bytes beyond stay". "A query's
+-- number"; "Acceptance changes no byte past the last card". Refused: 1 leaves all as it was; 2 to 16 and 21 "set the first 32,000 bytes to 0; bytes beyond stay". "A query's
 -- own refusals, like its replies, leave an accepted file's cards filled."
 abbrev pub byteLeft : List ℕ → List ℕ → Outcome ℕ → ℕ → ℕ
 byteLeft file lent (result k) i = cond (ltb i (cardBytes * k)) (entryAt (stateOf file) (i / cardBytes) (i % cardBytes)) (getD lent i 0)

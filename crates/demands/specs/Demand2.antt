@@ -29,7 +29,7 @@ Accepted reply = (k : ℕ) × (reply ≡ result k)
 pub record Demand2 : Type 0 where
   -- "lent card memory of the stated size, accepts a file exactly when it obeys";
   pub accepts : (file lent : List ℕ) → Enough lent → Accepted (checkTells file lent) ↔ Obeys file
-  -- and refuses with c at p exactly when c is the lowest cause of the first field at fault, and p its place (or memory or file have not their size);
+  -- and refuses with c at p exactly when c is the cause judged first of the first field at fault, and p its place (or memory or file have not their size);
   pub refuses : (file lent : List ℕ) (c p : ℕ) → (checkTells file lent ≡ refusal c p) ↔ FileRefused file lent c p
   -- what is read off the fields of a file that obeys: nothing at first, then each adds to it in its turn.
   pub what-fields-add : (file : List ℕ) (o : Obeys file) → stateOf file ≡ adds start (o .fields)

@@ -8,13 +8,11 @@ use native.Mathlib.Omega.{arith}
 use borrow.Author.Tests.{eq-eqb, ne-eqb, eqb-true}
 use lib.Dec.{eqb}
 use lib.ListN.{getD, length}
-use lib.Seq.{length-paste}
 use Rattle.limits.specs.Limits.{maxDeclarations}
 use Rattle.limits.specs.Sizes.{columnCount}
 use Rattle.theory.specs.Lists.{bindOption}
-use Rattle.forms.specs.declared.Form.{Form}
-use Rattle.forms.specs.Tables.{formAt, stored, words as formWords}
-use Rattle.forms.proofs.Tables.{load-other}
+use Rattle.forms.specs.Forms.{formAt, stored}
+use Rattle.forms.proofs.Tables.{load-other, load-same, stored-length}
 use Rattle.context.specs.Store.{kindAt}
 use Rattle.context.specs.Lookup.{declaredNamed}
 use Rattle.entering.specs.declared.substitutes.Site.{Site}
@@ -52,15 +50,9 @@ module _ (names facts declared : List ℕ) (d : ℕ) where
       refl
 
 -- the copy
-pub again : (i d : ℕ) (f : Form) (before after : List ℕ) → d < maxDeclarations → length before ≡ nextWords → f ≡ formAt before i
-    → after ≡ stored before d f → formAt after d ≡ f → Again i d before after
-unfolding stored
-again i d f before after small l ei es ef =
-    record {
-      size = ap length es ∙ length-paste before (d * 4) (formWords f) 4 (omega arith) (omega arith);
-      here = ef ∙ ei;
-      others = λ g n. ap (λ (t : List ℕ). formAt t g) es ∙ load-other before d g f (omega arith) n;
-    }
+pub again : (i d f : ℕ) (before : List ℕ) → d < maxDeclarations → length before ≡ nextWords → f ≡ formAt before i → Again i d before (stored before d f)
+again i d f before small l ei =
+    record { size = stored-length before d f; here = load-same before d f (omega arith) ∙ ei; others = λ g n. load-other before d g f n }
 
 -- one name and one kind: one declaration among the codes
 both : (a b : Bool) → a && b ≡ true → (a ≡ true) × (b ≡ true)

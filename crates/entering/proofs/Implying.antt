@@ -1,29 +1,28 @@
 -- `implied`: numbers of declarations, and the level of an implied substitute.
 use mathlib.Core.Path.{_≡_, refl, sym, ap, ap₂, _∙_}
-use mathlib.Core.Bool.{Bool, true, false, cond}
-use mathlib.Core.List.{List, [], _∷_, _++_, append-assoc}
-use Prim.Native.Nat.{ℕ, zero, suc, _+_, _-_, _≤_, _<_}
+use mathlib.Core.Bool.{Bool, true, false}
+use mathlib.Core.List.{List, _++_}
+use Prim.Native.Nat.{ℕ, _+_, _/_, _%_, _^_, _≤_, _<_}
 use native.Mathlib.Omega.{arith}
 use borrow.Author.Tests.{lt-ltb, le-ltb, le-leb, lt-leb}
 use lib.Dec.{ltb}
-use lib.ListN.{getD, length, length-append, replicate, take}
+use lib.Bits.{bitOr}
+use lib.ListN.{getD, length}
 use Rattle.limits.specs.Limits.{maxArity, maxDeclarations, maxDefinitions}
 use Rattle.texts.specs.Text.{firsts, named}
-use Rattle.forms.specs.declared.Form.{Form}
-use Rattle.forms.specs.Forms.{Gives, levelAt, levelsAt, width}
-use Rattle.forms.specs.Tables.{formAt}
-use Rattle.forms.proofs.Combining.{level-pad}
-use Rattle.levels.proofs.Agree.{pad}
-use Rattle.levels.specs.Tables.{sceneOf}
-use Rattle.levels.specs.Walk.{nameMeans}
-use Rattle.levels.proofs.Arrays.{length-firsts, take-inside}
+use Rattle.forms.specs.declared.Led.{Led}
+use Rattle.forms.specs.Forms.{Gives, Leads, bitsAt, gives, levelAt, paramLevels, width}
+use Rattle.forms.specs.Labels.{levelOf, whole}
+use Rattle.forms.proofs.Forms.{bits-base, under-all}
+use Rattle.forms.proofs.Laws.{or-assoc, whole-digit}
+use Rattle.forms.proofs.Leading.{gives-append, params-length}
+use Rattle.levels.specs.Tables.{placeOf, sceneOf}
+use Rattle.levels.proofs.Heads.{same-place}
 use Rattle.context.specs.Store.{firstAt}
 use Rattle.context.specs.Lookup.{isDeclared, operatorIn}
 use Rattle.context.specs.declared.Operator.{Operator}
 use Rattle.context.specs.declared.Operator.the-variants.{Constant, Variable, Defined, Unknown}
-use Rattle.entering.specs.Own.{Own, paramLevels}
 use Rattle.entering.specs.Implied.{argumentsOf, impliedLevel, impliedRef, numberOf, refOf}
-use Rattle.entering.proofs.Owning.{length-params}
 
 module _ (facts : List ℕ) (o : ℕ) where
   pub number-declared : (b : Bool) (d : ℕ) → b ≡ isDeclared facts o → b ≡ true → d ≡ firstAt facts o → d < maxDeclarations → d ≡ numberOf facts o
@@ -70,28 +69,24 @@ module _ (facts : List ℕ) (p q : Operator) (e : p ≡ q) where
   unfolding refOf
   ref-unknown r z h = h ∙ ap (refOf facts) (sym z ∙ e)
 
--- levels of 0 at the end do not matter
-named-pad : (numbers words : List ℕ) (r : ℕ) (ls : List ℕ) (n : ℕ) → named (sceneOf numbers words) r (ls ++ replicate n 0) ≡ named (sceneOf numbers words) r ls
-named-pad numbers words r ls n =
-    ap₂ (cond (ltb r maxDefinitions)) (level-pad (formAt words (getD numbers r 0)) ls n)
-    (level-pad (formAt words (maxDefinitions + (r - maxDefinitions))) ls n)
+-- what the labels of the name's form make of the instances' parameters and of those in a row
+pub implied-gives : (numbers words : List ℕ) (r P p k g w : ℕ) (led all : Led) → g ≡ placeOf numbers r → w ≡ getD words g 0
+    → Leads (w % 8) 1 (w / 8) 0 P led → Leads (led .form) 1 (led .labels) (P + p) k all → Gives (all .form) (impliedLevel numbers words r P p k)
+unfolding impliedLevel levelAt bitsAt
+implied-gives numbers words r P p k g w led all eg ew a b = record { at = λ v h. ap levelOf (bits v h) ∙ level v }
+  where
+    row : List ℕ → List ℕ
+    row v = firsts P v ++ paramLevels (P + p) k v
 
-named-six : (numbers words : List ℕ) (r : ℕ) (ps ls : List ℕ) → length ps + length ls ≤ width
-    → named (sceneOf numbers words) r (take width (ps ++ take width (ls ++ replicate width 0))) ≡ named (sceneOf numbers words) r (ps ++ ls)
-named-six numbers words r ps ls h =
-    let l : length (ps ++ ls) ≡ length ps + length ls = length-append ps ls in
-    let one : take width (ps ++ take width (ls ++ replicate width 0)) ≡ take width (ps ++ (ls ++ replicate width 0)) = take-inside width width ps (ls ++ replicate width 0) (omega arith) in
-    let two : take width ((ps ++ ls) ++ replicate width 0) ≡ (ps ++ ls) ++ replicate (width - length (ps ++ ls)) 0 = pad width width (ps ++ ls) (omega arith) (omega arith) in
-    ap (named (sceneOf numbers words) r) (one ∙ ap (take width) (sym (append-assoc ps ls (replicate width 0))) ∙ two)
-    ∙ named-pad numbers words r (ps ++ ls) (width - length (ps ++ ls))
+    bits : (v : List ℕ) → length v ≤ width → bitsAt (all .form) v ≡ bitsAt w (row v)
+    bits v h =
+        let ps = firsts P v in
+        let qs = paramLevels (P + p) k v in
+        b .form .at v h
+        ∙ ap₂ bitOr (a .form .at v h ∙ ap₂ bitOr (bits-base (w % 8) v (omega arith) ∙ whole-digit w) (under-all (w / 8) ps))
+        (under-all (led .labels) qs ∙ ap (λ (x : ℕ). gives x qs) (a .labels ∙ ap (λ (n : ℕ). w / 8 / 8 ^ n) (sym (params-length 0 P v))))
+        ∙ or-assoc (whole w) (gives (w / 8) ps) (gives (w / 8 / 8 ^ length ps) qs)
+        ∙ ap (bitOr (whole w)) (sym (gives-append (w / 8) ps qs))
 
-pub implied-gives : (numbers words : List ℕ) (r P p k : ℕ) (fs : List Form) (x : Form) → P + p ≤ maxArity → k ≤ maxArity → Own (P + p) k fs
-    → Gives x (nameMeans (r ∷ []) numbers words P 0 fs) → Gives x (impliedLevel numbers words r P p k)
-unfolding nameMeans impliedLevel
-implied-gives numbers words r P p k fs x h l o g =
-    record {
-      fit = g .fit;
-      at = λ v.
-          g .at v ∙ ap (λ (ls : List ℕ). named (sceneOf numbers words) r (take width (firsts P v ++ ls))) (o .same v)
-          ∙ named-six numbers words r (firsts P v) (paramLevels (P + p) k v) (omega (arith, length-firsts P v, length-params (P + p) k v));
-    }
+    level : (v : List ℕ) → levelAt w (row v) ≡ named (sceneOf numbers words) r (row v)
+    level v = ap (λ (x : ℕ). levelAt x (row v)) (ew ∙ ap (λ (i : ℕ). getD words i 0) eg) ∙ same-place numbers words r (row v)

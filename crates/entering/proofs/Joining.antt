@@ -18,9 +18,8 @@ use Rattle.theory.proofs.Lists.{append-all}
 use Rattle.tokens.specs.Expr.{Expr, exprAt, found}
 use Rattle.tokens.specs.Limit.{countsKept}
 use Rattle.texts.specs.Text.{Declarations, noDeclaration, refHead, shown}
-use Rattle.forms.specs.declared.Form.{Form}
-use Rattle.forms.specs.Forms.{Gives, levelAt, width}
-use Rattle.forms.specs.Tables.{formAt}
+use Rattle.forms.specs.Forms.{formAt, Gives, levelAt, width}
+use Rattle.levels.specs.Tables.{namesOf}
 use Rattle.levels.specs.Walk.{TextForm}
 use Rattle.context.specs.Store.{kindAt}
 use Rattle.context.specs.Lookup.{declaredNamed}
@@ -128,16 +127,16 @@ same-there names facts codes e x n o en ek f eo =
 module _ (G : ℕ → List ℕ → ℕ) (good : (g : ℕ) (us : List ℕ) → All IsLevel us → IsLevel (G g us)) (decls : Declarations) (N F : ℕ → Type 0) (w : World)
     (Ss : List (Table ℕ)) (low : All LowTable Ss) (a : Around) (site : Site) (around-field : site .outer ≡ paramsIn w)
     (shows : Shows G decls N F w Ss (a .numbers) (a .words)) (ar : Arities) where
-  stands-level : (k : Kind) (o : ℕ) (f : Form) (u : Term) (v : List ℕ) → length v ≡ paramsIn w + (site .params + kindArity k) → length v ≤ width → All IsLevel v
+  stands-level : (k : Kind) (o : ℕ) (f : ℕ) (u : Term) (v : List ℕ) → length v ≡ paramsIn w + (site .params + kindArity k) → length v ≤ width → All IsLevel v
       → argumentsOf (kindAt (a .facts) o) ≡ kindArity k → (x : Writing) → StandsBy a site o x f → Known a site decls N F ar (site .params + kindArity k) k o u x
       → levelAt f v ≡ evalAt (byTables longWay G w Ss) (paramsIn w) u v
   stands-level k o f u v size short lows count (Written at) st kn =
       written-level G decls N F w Ss (a .numbers) (a .words) shows v lows (site .params + kindArity k) size (a .refs)
       (keeps-tables G good w Ss low (take (paramsIn w) v) (take-levels (paramsIn w) v lows)) ar (a .file) at (kn .next) (kn .text) f u short
-      (subst (λ (P : ℕ). TextForm (a .refs) (a .numbers) (a .words) (a .file) P at f) around-field st) (kn .stands) (kn .kept) (kn .names) (kn .formed) (kn .same)
+      (subst (λ (P : ℕ). TextForm (namesOf (a .refs) (a .numbers) (a .words) P) (a .file) at f) around-field st) (kn .stands) (kn .names) (kn .formed) (kn .same)
   stands-level k o f u v size short lows count Unwritten st kn =
       let r : ℕ = impliedRef (a .names) (a .facts) (a .contexts) (a .heads) (site .owner) (getD (a .names) o 0) in
-      implied-level G decls N F w Ss (a .numbers) (a .words) shows v lows (site .params + kindArity k) size ar r (site .params) k f
+      implied-level G decls N F w Ss (a .numbers) (a .words) shows v lows (site .params + kindArity k) size ar r (site .params) k f short
       (subst (λ (m : ℕ). Gives f (impliedLevel (a .numbers) (a .words) r (paramsIn w) (site .params) m)) count
       (subst (λ (P : ℕ). Gives f (impliedLevel (a .numbers) (a .words) r P (site .params) (argumentsOf (kindAt (a .facts) o)))) around-field st))
       refl (kn .resolved) (kn .fits)
@@ -191,12 +190,12 @@ module _ (G : ℕ → List ℕ → ℕ) (good : (g : ℕ) (us : List ℕ) → Al
         shows = record {
           defined = λ g f us b.
               ap (λ (h : ℕ). levelAt (formAt words′ h) us) (numbered .each g f)
-              ∙ ap (λ (x : Form). levelAt x us) (new .definitions (numberIn (l ∷ w) g) (small g f)) ∙ formed g f us b;
+              ∙ ap (λ (x : ℕ). levelAt x us) (new .definitions (numberIn (l ∷ w) g) (small g f)) ∙ formed g f us b;
           declared = λ d o pre us p q b c.
               let below : d < maxDeclarations = omega (arith, o .0) in
               let inside : d < n = omega (arith, o .0) in
               let long : length (pre ++ us) ≡ paramsIn (l ∷ w) + kindArity (getD decls d noDeclaration .0) = omega (arith, length-append pre us) in
-              ap (λ (f : Form). levelAt f (pre ++ us)) (new .declarations d below)
+              ap (λ (f : ℕ). levelAt f (pre ++ us)) (new .declarations d below)
               ∙ substitutes-right l codes declared before next n ep sub code room d inside (shown d (o .0)) (o .1) (pre ++ us) long
               (append-all IsLevel pre us b c);
         };

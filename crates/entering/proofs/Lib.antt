@@ -1,4 +1,3 @@
-pub mod Owning
 pub mod Standing
 pub mod Entering
 pub mod Finding

@@ -17,18 +17,18 @@ use Rattle.theory.specs.Expand.{itself, paramsFrom}
 use Rattle.theory.proofs.ExpandFirst.{Keeps}
 use Rattle.theory.proofs.Lists.{append-all}
 use Rattle.tokens.specs.Expr.{Expr, Exprs, Placed, exprAt, found}
-use Rattle.tokens.specs.Limit.{countsKept}
 use Rattle.tokens.specs.declared.Token.{Token}
 use Rattle.tokens.specs.declared.Token.the-variants.{Parameter, Bound, Name, InstanceOperator, BuiltIn, Literal, NoToken}
 use Rattle.texts.specs.Text.{Declarations, firsts, named, noDeclaration, refHead, shown, tokenHead}
 use Rattle.texts.proofs.Levels.{AllSay, AllsSay, Says, TokenSays, firsts-take, headMeaning, level-shown, own-level}
-use Rattle.forms.specs.declared.Form.{Form}
 use Rattle.forms.specs.Forms.{Gives, levelAt, width}
-use Rattle.levels.specs.Tables.{sceneOf}
+use Rattle.levels.specs.Tables.{namesOf, sceneOf}
+use Rattle.forms.proofs.Highest.{low-params}
+use Rattle.forms.proofs.Leading.{params-length}
 use Rattle.levels.specs.Walk.{TextForm}
 use Rattle.worlds.specs.World.{World, evalAt, numberIn, paramsIn, readDefined}
 use Rattle.worlds.specs.Tables.{Table, byTables, declaredBy}
-use Rattle.entering.specs.Own.{paramLevels}
+use Rattle.forms.specs.Forms.{paramLevels}
 use Rattle.entering.specs.Implied.{impliedLevel}
 use Rattle.entering.specs.Shows.{OneOf, Resolved, Shows, TextNames, TextsName, TokenNames}
 
@@ -36,14 +36,6 @@ pub take-levels : (n : ℕ) (v : List ℕ) → All IsLevel v → All IsLevel (ta
 take-levels zero v a = tt
 take-levels (suc n) [] a = tt
 take-levels (suc n) (x ∷ v) a = (a .0, take-levels n v (a .1))
-
-low-params : (v : List ℕ) (i m : ℕ) → All IsLevel (paramLevels i m v)
-low-params v i zero = tt
-low-params v i (suc m) = (omega arith, low-params v (suc i) m)
-
-length-levels : (v : List ℕ) (i m : ℕ) → length (paramLevels i m v) ≡ m
-length-levels v i zero = refl
-length-levels v i (suc m) = ap suc (length-levels v (suc i) m)
 
 module _ (G : ℕ → List ℕ → ℕ) (decls : Declarations) (N F : ℕ → Type 0) (w : World) (Ss : List (Table ℕ)) (numbers words : List ℕ)
     (shows : Shows G decls N F w Ss numbers words) (v : List ℕ) (lows : All IsLevel v) (n : ℕ) (size : length v ≡ paramsIn w + n) where
@@ -102,11 +94,11 @@ module _ (G : ℕ → List ℕ → ℕ) (decls : Declarations) (N F : ℕ → Ty
       alls-say (t ▹ ts) k s m f = (all-say t (s 0 + k) (m .0) (f .0), alls-say ts k (λ i. s (suc i)) (m .1) (f .1))
 
     -- A substitute that is written: its form gives the level of its term in the world of the instance's own field.
-    pub written-level : (s : List ℕ) (at e : ℕ) (t : Expr) (f : Form) (u : Term) → length v ≤ width → TextForm refs numbers words s (paramsIn w) at f
-        → exprAt maxNesting s at ≡ found t e → countsKept t ≡ true → TextNames N F refs t → Every (Fits ar n) 0 (shown refs decls t)
+    pub written-level : (s : List ℕ) (at e : ℕ) (t : Expr) (f : ℕ) (u : Term) → length v ≤ width → TextForm (namesOf refs numbers words (paramsIn w)) s at f
+        → exprAt maxNesting s at ≡ found t e → TextNames N F refs t → Every (Fits ar n) 0 (shown refs decls t)
         → shown refs decls t ≡ u → levelAt f v ≡ evalAt (byTables longWay G w Ss) (paramsIn w) u v
-    written-level s at e t f u short form q c m ok z =
-        form .level t e q c v short
+    written-level s at e t f u short form q m ok z =
+        form .level t e q v short
         ∙ level-shown refs decls (sceneOf numbers words) (paramsIn w) n v size lows D H keeps ar t 0 [] tt (λ (j : ℕ) (l : j < 0). absurd (omega arith)) (all-say t 0 m ok) ok
         ∙ ap (λ (x : Term). evalAt (byTables longWay G w Ss) (paramsIn w) x v) z
 
@@ -118,14 +110,14 @@ module _ (G : ℕ → List ℕ → ℕ) (decls : Declarations) (N F : ℕ → Ty
       (values-row (suc i) m (omega arith) x (λ j. s (suc j)) β ∙ ap (λ (j : ℕ). paramLevels j m v) (add-suc (paramsIn w) i))
 
   -- A substitute that is implied.
-  pub implied-level : (ar : Arities) (r p : ℕ) (k : Kind) (f : Form) → Gives f (impliedLevel numbers words r (paramsIn w) p (kindArity k)) → n ≡ p + kindArity k
+  pub implied-level : (ar : Arities) (r p : ℕ) (k : Kind) (f : ℕ) → length v ≤ width → Gives f (impliedLevel numbers words r (paramsIn w) p (kindArity k)) → n ≡ p + kindArity k
       → Resolved N F r → Fits ar n 0 (refHead decls r) (kindArity k)
       → levelAt f v ≡ evalAt (byTables longWay G w Ss) (paramsIn w) (itself p k (refHead decls r)) v
   unfolding impliedLevel
-  implied-level ar r p k f g e h ok =
+  implied-level ar r p k f short g e h ok =
       let us : List ℕ = paramLevels (paramsIn w + p) (kindArity k) v in
-      g .at v ∙ ap (λ (l : List ℕ). named (sceneOf numbers words) r (l ++ us)) (firsts-take (paramsIn w) v lows (omega arith))
-      ∙ says ar r (kindArity k) 0 h ok us (length-levels v (paramsIn w + p) (kindArity k)) (low-params v (paramsIn w + p) (kindArity k))
+      g .at v short ∙ ap (λ (l : List ℕ). named (sceneOf numbers words) r (l ++ us)) (firsts-take (paramsIn w) v lows (omega arith))
+      ∙ says ar r (kindArity k) 0 h ok us (params-length (paramsIn w + p) (kindArity k) v) (low-params (paramsIn w + p) (kindArity k) v)
       ∙ ap (headMeaning D H (refHead decls r)) (sym (values-row p (kindArity k) (omega arith) incorrect (bindsIn plain) []))
       ∙ by-ref (ltb r maxDefinitions) (paramsFrom p (kindArity k))
     where

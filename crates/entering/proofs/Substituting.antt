@@ -7,14 +7,12 @@ use native.Mathlib.Decide.{ℕ-discrete}
 use native.Mathlib.Omega.{arith}
 use borrow.Author.Tests.{eq-eqb, ne-eqb}
 use lib.ListN.{getD, length}
-use lib.Seq.{length-paste}
 use Rattle.limits.specs.Limits.{maxDeclarations}
 use Rattle.limits.specs.Sizes.{columnCount, contextLength}
 use Rattle.theory.specs.Lists.{bindOption}
-use Rattle.forms.specs.declared.Form.{Form}
-use Rattle.forms.specs.Forms.{Gives}
-use Rattle.forms.specs.Tables.{formAt, stored, words as formWords}
-use Rattle.forms.proofs.Tables.{load-other}
+use Rattle.forms.specs.Forms.{formAt, Gives, stored}
+use Rattle.forms.proofs.Tables.{load-other, load-same, stored-length}
+use Rattle.levels.specs.Tables.{namesOf}
 use Rattle.levels.specs.Walk.{TextForm}
 use Rattle.context.specs.Parts.{part}
 use Rattle.context.specs.Store.{contextCodes, contextSlot, kindAt}
@@ -29,33 +27,27 @@ use Rattle.entering.specs.Written.{writtenAt}
 use Rattle.entering.specs.Implied.{argumentsOf, impliedLevel, impliedRef}
 use Rattle.entering.specs.Substitutes.{Added, Around, Placed, Stands, StandsBy, Substituted, nextWords, ofKind, sameDeclared}
 
-module _ (a : Around) (site : Site) (o : ℕ) (f : Form) (x : ℕ) (w : Writing) (ex : x ≡ getD (a .names) o 0)
+module _ (a : Around) (site : Site) (o : ℕ) (f : ℕ) (x : ℕ) (w : Writing) (ex : x ≡ getD (a .names) o 0)
     (ew : w ≡ writtenAt (site .count) (a .file) (site .start) x) where
   there : (k : Writing) → w ≡ k → writtenAt (site .count) (a .file) (site .start) (getD (a .names) o 0) ≡ k
   there k e = ap (writtenAt (site .count) (a .file) (site .start)) (sym ex) ∙ sym ew ∙ e
 
-  pub stands-written : (at : ℕ) → w ≡ Written at → TextForm (a .refs) (a .numbers) (a .words) (a .file) (site .outer) at f → Stands a site o f
-  stands-written at e t = record { fit = t .fit; means = subst (λ (k : Writing). StandsBy a site o k f) (sym (there (Written at) e)) t }
+  pub stands-written : (at : ℕ) → w ≡ Written at → TextForm (namesOf (a .refs) (a .numbers) (a .words) (site .outer)) (a .file) at f → Stands a site o f
+  stands-written at e t = record { means = subst (λ (k : Writing). StandsBy a site o k f) (sym (there (Written at) e)) t }
 
   pub stands-implied : (r n k : ℕ) → w ≡ Unwritten → r ≡ impliedRef (a .names) (a .facts) (a .contexts) (a .heads) (site .owner) x
       → n ≡ kindAt (a .facts) o → k ≡ argumentsOf n → Gives f (impliedLevel (a .numbers) (a .words) r (site .outer) (site .params) k) → Stands a site o f
   stands-implied r n k e er en ek g =
       record {
-        fit = g .fit;
         means = subst (λ (k : Writing). StandsBy a site o k f) (sym (there Unwritten e))
             (subst (λ (j : ℕ). Gives f (impliedLevel (a .numbers) (a .words) (impliedRef (a .names) (a .facts) (a .contexts) (a .heads) (site .owner) (getD (a .names) o 0)) (site .outer) (site .params) j)) (ek ∙ ap argumentsOf en)
             (subst (λ (j : ℕ). Gives f (impliedLevel (a .numbers) (a .words) j (site .outer) (site .params) k)) (er ∙ ap (impliedRef (a .names) (a .facts) (a .contexts) (a .heads) (site .owner)) ex) g));
       }
 
-pub placed : (a : Around) (site : Site) (o d : ℕ) (f : Form) (before after : List ℕ) → d < maxDeclarations → length before ≡ nextWords → Stands a site o f
-    → after ≡ stored before d f → formAt after d ≡ f → Placed a site o d before after
-unfolding stored
-placed a site o d f before after small l s es ef =
-    record {
-      size = ap length es ∙ length-paste before (d * 4) (formWords f) 4 (omega arith) (omega arith);
-      here = subst (Stands a site o) (sym ef) s;
-      others = λ g n. ap (λ (t : List ℕ). formAt t g) es ∙ load-other before d g f (omega arith) n;
-    }
+pub placed : (a : Around) (site : Site) (o d f : ℕ) (before : List ℕ) → d < maxDeclarations → length before ≡ nextWords → Stands a site o f
+    → Placed a site o d before (stored before d f)
+placed a site o d f before small l s =
+    record { size = stored-length before d f; here = subst (Stands a site o) (sym (load-same before d f (omega arith))) s; others = λ g n. load-other before d g f n }
 
 -- the code that was found, or none
 module _ (facts : List ℕ) (e o : ℕ) (k l : ℕ) (ek : k ≡ getD facts (columnCount * o) 0) (el : l ≡ getD facts (columnCount * e) 0) where

@@ -10,7 +10,7 @@ use Rattle.context.specs.Store.{contextCodes, firstAt}
 use Rattle.context.specs.Lookup.{asCode, codeNamed, isDeclared, operatorIn}
 use Rattle.context.specs.declared.Operator.{Operator}
 use Rattle.context.specs.declared.Operator.the-variants.{Constant, Variable, Defined, Unknown}
-use Rattle.entering.specs.Own.{paramLevels}
+use Rattle.forms.specs.Forms.{paramLevels}
 
 -- a declaration's number; of another code the first number that is none, for which the table of forms has level 0
 unfoldable pub numberOf : List ℕ → ℕ → ℕ

@@ -8,9 +8,7 @@ use lib.Dec.{leb}
 use lib.ListN.{length}
 use Rattle.limits.specs.Limits.{maxArity}
 use Rattle.theory.specs.Level.{highest}
-use Rattle.forms.specs.Forms.{levelAt}
-use Rattle.forms.specs.Tables.{formAt}
-use Rattle.entering.specs.Own.{paramLevels}
+use Rattle.forms.specs.Forms.{Gives, formAt, paramLevels}
 
 -- a kind is a constant's argument count, or that of a variable, which is above them
 unfoldable pub itselfLevel : ℕ → List ℕ → ℕ
@@ -19,5 +17,5 @@ itselfLevel kind v = cond (leb kind maxArity) (highest (paramLevels 0 kind v)) 1
 -- one form has changed: it gives these levels
 pub record Put (level : List ℕ → ℕ) (before after : List ℕ) (g : ℕ) : Type 0 where
   pub size : length after ≡ length before
-  pub here : (v : List ℕ) → levelAt (formAt after g) v ≡ level v
+  pub here : Gives (formAt after g) level
   pub others : (h : ℕ) → h ≢ g → formAt after h ≡ formAt before h

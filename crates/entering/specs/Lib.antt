@@ -1,4 +1,3 @@
-pub mod Own
 pub mod Itself
 pub mod Numbering
 pub mod Written

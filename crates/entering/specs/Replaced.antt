@@ -4,7 +4,7 @@ use mathlib.Core.List.{List}
 use Prim.Native.Nat.{ℕ, _+_, _<_}
 use lib.ListN.{length}
 use Rattle.limits.specs.Limits.{maxDeclarations, maxDefinitions}
-use Rattle.forms.specs.Tables.{formAt}
+use Rattle.forms.specs.Forms.{formAt}
 
 pub record Replaced (next before after : List ℕ) : Type 0 where
   pub size : length after ≡ length before

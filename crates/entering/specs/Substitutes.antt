@@ -4,14 +4,13 @@ use mathlib.Core.Bool.{cond}
 use mathlib.Core.List.{List}
 use mathlib.Core.Logic.{_≢_}
 use mathlib.Core.Option.{Option, none, some}
-use Prim.Native.Nat.{ℕ, _+_, _*_, _≤_, _<_}
+use Prim.Native.Nat.{ℕ, _+_, _≤_, _<_}
 use lib.Dec.{eqb}
 use lib.ListN.{getD, length}
 use Rattle.limits.specs.Limits.{maxArity, maxDeclarations, maxModules}
 use Rattle.theory.specs.Lists.{bindOption}
-use Rattle.forms.specs.declared.Form.{Form}
-use Rattle.forms.specs.Forms.{Fit, Gives}
-use Rattle.forms.specs.Tables.{formAt}
+use Rattle.forms.specs.Forms.{Gives, formAt}
+use Rattle.levels.specs.Tables.{namesOf}
 use Rattle.levels.specs.Walk.{TextForm}
 use Rattle.context.specs.Store.{kindAt}
 use Rattle.context.specs.Lookup.{declaredNamed}
@@ -23,7 +22,7 @@ use Rattle.entering.specs.Implied.{argumentsOf, impliedLevel, impliedRef
 
 -- a form for each declaration
 abbrev pub nextWords : ℕ
-nextWords = 4 * maxDeclarations
+nextWords = maxDeclarations
 
 -- What a substitute is read by: the file; what its names were resolved to; the world of the INSTANCE field, by its tables; and what the
 -- fields of the file have added.
@@ -56,16 +55,15 @@ pub record Fitting (site : Site) : Type 0 where
   pub owner : site .owner ≤ maxModules
 
 -- f gives the levels of what is written, or else those of what is implied
-abbrev pub StandsBy : Around → Site → ℕ → Writing → Form → Type 0
-StandsBy a site o (Written at) f = TextForm (a .refs) (a .numbers) (a .words) (a .file) (site .outer) at f
+abbrev pub StandsBy : Around → Site → ℕ → Writing → ℕ → Type 0
+StandsBy a site o (Written at) f = TextForm (namesOf (a .refs) (a .numbers) (a .words) (site .outer)) (a .file) at f
 StandsBy a site o Unwritten f =
     Gives f
     (impliedLevel (a .numbers) (a .words) (impliedRef (a .names) (a .facts) (a .contexts) (a .heads) (site .owner) (getD (a .names) o 0)) (site .outer)
     (site .params) (argumentsOf (kindAt (a .facts) o)))
 
 -- f is what stands for the declaration o
-pub record Stands (a : Around) (site : Site) (o : ℕ) (f : Form) : Type 0 where
-  pub fit : Fit f
+pub record Stands (a : Around) (site : Site) (o : ℕ) (f : ℕ) : Type 0 where
   pub means : StandsBy a site o (writtenAt (site .count) (a .file) (site .start) (getD (a .names) o 0)) f
 
 -- the table with what stands for o at d

@@ -1,5 +1,4 @@
 // The world of no instance: each declaration stands for itself.
-use crate::own::own_params;
 use forms::Form;
 use limits::Limits;
 ghost use mathlib.Core.Path.{_≡_};
@@ -11,15 +10,14 @@ ghost use Rattle.levels.specs.Tables.{tableWords};
 ghost use Rattle.entering.specs.Itself.{itselfLevel, Put};
 
 // A constant is the highest of its arguments, a variable has level 1. The kind of a constant is its argument count.
-fn itself(kind: u16) -> Form
+fn itself(kind: u16) -> u64
     ensures { λ r. ⌜ Gives r (itselfLevel kind) ⌝ }
 {
     let k = kind as usize;
     if k <= Limits::ARITY {
-        let fs = own_params(0, k);
-        return forms::builtins::highest_of(k, fs);
+        return forms::declared_form(k);
     }
-    forms::leaf(1)
+    Form::VARIABLE
 }
 
 // The form of declaration d, of the kind given, in the table of forms.
@@ -27,6 +25,5 @@ pub fn put_itself(kind: u16, words: &mut [u64], d: usize)
     requires { ⌜ (length (now words) ≡ tableWords) × (d < maxDeclarations) ⌝ }
     ensures { λ r. ⌜ Put (itselfLevel kind) (now (words .entry)) (now (words .exit)) (maxDefinitions + d) ⌝ }
 {
-    let f = itself(kind);
-    forms::table::store(words, Limits::DEFINITIONS + d, f);
+    words[Limits::DEFINITIONS + d] = itself(kind);
 }

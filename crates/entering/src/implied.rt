@@ -1,5 +1,4 @@
 // A declared name without a substitution stands for the operator of that name where the INSTANCE field stands, at its own parameters.
-use crate::own::own_params;
 use context::Operator;
 use context::lists::number_at;
 use context::lookup::find_operator;
@@ -8,10 +7,8 @@ use forms::Form;
 use limits::Limits;
 ghost use mathlib.Core.Path.{_≡_};
 ghost use Prim.Native.Nat.{_+_, _≤_};
-ghost use lib.ListN.{length};
 ghost use Rattle.limits.specs.Limits.{maxArity, maxDeclarations, maxModules};
 ghost use Rattle.forms.specs.Forms.{Gives};
-ghost use Rattle.levels.specs.Tables.{tableWords};
 ghost use Rattle.entering.specs.Implied.{argumentsOf, impliedLevel, impliedRef, numberOf};
 
 // A declaration's number among the declarations; of any other code the first number that is none.
@@ -65,11 +62,14 @@ pub fn implied_form(
     outer: usize,
     params: usize,
     k: usize,
-) -> Form
-    requires { ⌜ (length (now words) ≡ tableWords) × (outer + params ≤ maxArity) × (k ≤ maxArity) ⌝ }
+) -> u64
+    requires { ⌜ (outer + params ≤ maxArity) × (k ≤ maxArity) ⌝ }
     ensures { λ x. ⌜ Gives x (impliedLevel (now (numbers .entry)) (now (words .entry)) r outer params k) ⌝ }
 {
-    let fs = own_params(outer + params, k);
-    let one = [r];
-    levels::names::name_form(&one, numbers, words, 0, outer, fs)
+    let g = levels::names::place_of(numbers, r);
+    let w = levels::names::form_at(words, g);
+    let base = w % 8;
+    let led = forms::add_params(base, Form::PLAIN, w / 8, 0, outer);
+    let all = forms::add_params(led.form, Form::PLAIN, led.labels, outer + params, k);
+    all.form
 }

@@ -2,7 +2,6 @@
 pub mod empty;
 pub mod implied;
 pub mod numbering;
-pub mod own;
 pub mod replacing;
 pub mod sharing;
 pub mod substitutes;

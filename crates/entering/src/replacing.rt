@@ -11,9 +11,8 @@ pub fn replace(words: &mut [u64], next: &[u64])
     ensures { λ r. ⌜ Replaced (now (next .entry)) (now (words .entry)) (now (words .exit)) ⌝ }
 {
     let mut j: usize = 0;
-    while j < 4 * Limits::DECLARATIONS {
-        let x = next[j];
-        words[4 * Limits::DEFINITIONS + j] = x;
+    while j < Limits::DECLARATIONS {
+        words[Limits::DEFINITIONS + j] = next[j];
         j += 1;
     }
 }

@@ -42,6 +42,5 @@ pub fn copy_form(next: &mut [u64], i: usize, d: usize)
     requires { ⌜ (length (now next) ≡ nextWords) × (i < maxDeclarations) × (d < maxDeclarations) ⌝ }
     ensures { λ r. ⌜ Again i d (now (next .entry)) (now (next .exit)) ⌝ }
 {
-    let f = forms::table::load(next, i);
-    forms::table::store(next, d, f);
+    next[d] = next[i];
 }

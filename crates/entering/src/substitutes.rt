@@ -9,7 +9,6 @@ use crate::written::find_substitution;
 use context::Code;
 use context::lists::number_at;
 use context::lookup::find_declaration;
-use forms::Form;
 use limits::Limits;
 ghost use mathlib.Core.Path.{_≡_};
 ghost use Prim.Native.Nat.{_+_, _≤_, _<_};
@@ -42,7 +41,7 @@ pub fn substitute_form(
     heads: &[u16],
     site: Site,
     o: u16,
-) -> Form
+) -> u64
     requires { ⌜ (length (now words) ≡ tableWords) × Fitting site ⌝ }
     ensures { λ r. ⌜ Stands (around (now (s .entry)) (now (refs .entry)) (now (numbers .entry)) (now (words .entry)) (now (names .entry)) (now (facts .entry)) (now (contexts .entry)) (now (heads .entry))) site o r ⌝ }
 {
@@ -88,7 +87,7 @@ fn put_substitute(
         site,
         o,
     );
-    forms::table::store(next, d, f);
+    next[d] = f;
 }
 
 // o if it has the kind of e.

@@ -20,7 +20,7 @@ use Rattle.context.specs.Holds.{moduleNo}
 use Rattle.context.specs.Store.{Store, codesOf}
 use Rattle.context.specs.declared.Counts.{Counts}
 use Rattle.judge_plain.specs.declared.Phase.{Phase}
-use Rattle.levels.proofs.Named.{numbers-at}
+use Rattle.levels.proofs.Numbered.{numbers-at}
 use Rattle.resolve.proofs.Numbers.{declarationsOf}
 use Rattle.resolve.specs.Walk.{numberIn}
 use Rattle.standing.specs.Standing.{Standing, itselves}
@@ -34,7 +34,7 @@ use Rattle.unfolding.specs.InWorld.{namedIn, termIn, termsIn, tokenIn}
 use Rattle.spelling.specs.Strings.{AllLooksBelow, LooksBelow, byContext}
 use Rattle.spelling.specs.Written.{placeOf}
 use Rattle.worlds.specs.Rows.{Row}
-use Rattle.asking.proofs.Judging.{asked-right, formed, low, reads, table′, tree}
+use Rattle.asking.proofs.Judging.{asked-right, formed, low, reads, table, tree}
 use Rattle.asking.proofs.Noting.{Low, Reads, ReadsAll}
 use Rattle.asking.specs.Asks.{NamesAsked}
 
@@ -99,7 +99,7 @@ module _ (file : List ℕ) (fs : List Field) (s : State) (rs : List Row) (v : St
       → termIn (byContext (v .names) (v .facts) (codesOf v q)) (declarationsOf fs) (placeOf 0 0 itselves) text ≡ resolve s (moduleNo s q .context) e
   unfolding text
   text-term known =
-      term-here (numberIn (v .names) (v .facts) (codesOf v q)) (table′ file fs s rs v c p refs words declared′ stands q ended expr bytes e spelt kept n r asked)
+      term-here (numberIn (v .names) (v .facts) (codesOf v q)) (table file fs s rs v c p refs words declared′ stands q ended expr bytes e spelt kept n r asked)
       (declarationsOf fs) text (reads file fs s rs v c p refs words declared′ stands q ended expr bytes e spelt kept n r asked)
       ∙ asked-right file fs s rs v c p refs words declared′ stands q ended expr bytes e spelt kept n r asked .resolved known text (0 + length expr) text-found
 

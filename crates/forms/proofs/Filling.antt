@@ -1,11 +1,12 @@
 -- The entries of a card, and a card stored entry by entry.
 use mathlib.Core.Path.{_≡_, refl, sym, ap, ap₂, _∙_}
-use mathlib.Core.List.{List}
-use Prim.Native.Nat.{ℕ, zero, suc, _+_, _-_, _^_, _≤_, _<_}
+use mathlib.Core.List.{List, _++_}
+use Prim.Native.Nat.{ℕ, zero, suc, _+_, _-_, _*_, _/_, _%_, _^_, _≤_, _<_}
+use native.Mathlib.Nat.{pow-suc, pow-le-pow-right, zero-lt-suc}
 use native.Mathlib.Numerals.{add-one}
 use native.Mathlib.Omega.{arith}
-use lib.ListN.{List·getD-append, getD, length, replicate, set}
-use lib.Seq.{getD-append-add, length-paste, paste, paste-suc, paste-zero}
+use lib.ListN.{List·getD-append, getD, length, replicate, set, take}
+use lib.Seq.{append-snoc, getD-append-add, length-paste, paste, paste-suc, paste-zero, take-suc-set}
 use Rattle.limits.specs.Limits.{cardBytes, levelCount, maxArity}
 use Rattle.theory.proofs.Cards.{card-length, used-at, used-length}
 use Rattle.theory.specs.Card.{cardOf, levelsOf, usedEntries}
@@ -51,3 +52,20 @@ module _ {n : ℕ} {f : List ℕ → ℕ} {d : List ℕ} {at : ℕ} {out : List 
 
   pub fill-whole : cardBytes ≤ k → out ≡ paste d at (cardOf n f) cardBytes
   fill-whole h = inv .same ∙ ap (paste d at (cardOf n f)) (let e : k ≡ cardBytes = omega (arith, inv .upTo) in e)
+
+-- ---- the levels at an entry
+
+pub power-turn : (i : ℕ) → levelCount ^ i * levelCount ≡ levelCount ^ (i + 1)
+power-turn i = rw (add-one, pow-suc)
+
+pub power-fits : (i : ℕ) → i < 3 → levelCount ^ i * levelCount ≤ 125
+power-fits i h = rw (pow-suc levelCount i) at (pow-le-pow-right {n = levelCount} (zero-lt-suc 4) {i = suc i} {j = 3} h)
+
+pub vector-turn : (n i left : ℕ) (r : List ℕ) → i < n → i < length r
+    → take (i + 1) (set r i (left % levelCount)) ++ levelsOf (n - (i + 1)) (left / levelCount) ≡ take i r ++ levelsOf (n - i) left
+vector-turn n i left r h l =
+    let e : n - i ≡ suc (n - (i + 1)) = omega arith in
+    ap (λ (x : List ℕ). x ++ levelsOf (n - (i + 1)) (left / levelCount))
+    (ap (λ (j : ℕ). take j (set r i (left % levelCount))) (add-one i) ∙ take-suc-set r i (left % levelCount) l)
+    ∙ append-snoc (take i r) (left % levelCount) (levelsOf (n - (i + 1)) (left / levelCount))
+    ∙ ap (λ (j : ℕ). take i r ++ levelsOf j left) (sym e)

@@ -1,89 +1,52 @@
--- Level forms: the level of an expression as a function of its parameters' levels v. It is 4 where a test fails, and else the highest of a
--- fixed level, `base`, and of v's entries at the places in `weights`.
--- The tests: `bad` fails always; the highest level in `one`, `two`, `three` is at most 1, 2, 3; for each set in `plain` the highest level in it is
--- 0, 1 or 3; for each set in `strong` so is the highest of it and 2. A set of parameters is a number (Sets), a set of such sets too.
+-- A level form in one number: digits of three bits. The lowest are the bits of its base, the next those of the label of parameter 0, and so on.
+-- Its level at levels v is the highest of the base and of what each label makes of its parameter's level; what lies past the end of v counts as 0.
 use mathlib.Core.Path.{_≡_}
-use mathlib.Core.Bool.{Bool, true, false, not, _&&_}
-use mathlib.Core.List.{List, _∷_, [], map}
-use Prim.Native.Nat.{ℕ, _*_, _^_, _<_, max, min}
-use lib.ListN.{getD}
-use Rattle.limits.specs.Limits.{maxArity}
-use Rattle.theory.specs.Level.{Mask, incorrect, notTransition, taken, upTo1, upTo2}
-use Rattle.forms.specs.declared.Demand.{Demand}
-use Rattle.forms.specs.declared.Demand.the-variants.{UpTo1, UpTo2, UpTo3, NotTransition}
-use Rattle.forms.specs.declared.Tests.{Tests}
-use Rattle.forms.specs.declared.Form.{Form}
-use Rattle.forms.specs.declared.Above.{Above}
-use Rattle.forms.specs.Sets.{above, every, pick}
+use mathlib.Core.List.{List, [], _∷_, map}
+use Prim.Native.Nat.{ℕ, _/_, _^_, _≤_, min}
+use lib.Bits.{bitOr}
+use lib.ListN.{getD, length, set}
+use Rattle.theory.specs.Level.{incorrect}
+use Rattle.theory.specs.Lists.{numbersFrom}
+use Rattle.forms.specs.declared.Led.{Led}
+use Rattle.forms.specs.Labels.{coded, levelOf, under, whole}
 
--- any level but 4
-abbrev pub upTo3 : Mask
-upTo3 = 0 ∷ 1 ∷ 2 ∷ 3 ∷ []
-
--- what can be asked of a level
-abbrev pub demandMask : Demand → Mask
-demandMask UpTo1 = upTo1
-demandMask UpTo2 = upTo2
-demandMask UpTo3 = upTo3
-demandMask NotTransition = notTransition
-
-unfoldable pub takes : Demand → ℕ → Bool
-takes d l = taken (demandMask d) l
-
--- the highest of b and of the levels in s is 0, 1 or 3
-abbrev pub kindOver : ℕ → List ℕ → ℕ → Bool
-kindOver b v s = takes NotTransition (max b (pick s v))
-
-abbrev pub all : Bool → Bool → Bool → Bool → Bool → Bool → Bool
-all a b c d e f = a && (b && (c && (d && (e && f))))
-
--- the levels v pass every test
-unfoldable pub pass : Tests → List ℕ → Bool
-pass t v =
-    all (not (t .bad)) (takes UpTo1 (pick (t .one) v)) (takes UpTo2 (pick (t .two) v)) (takes UpTo3 (pick (t .three) v))
-    (every (λ s. takes NotTransition (pick s v)) (t .plain)) (every (λ s. takes NotTransition (max 2 (pick s v))) (t .strong))
-
--- a level, or 4 where a test failed
-unfoldable pub passed : Bool → ℕ → ℕ
-passed true x = min incorrect x
-passed false x = incorrect
-
--- the level that a form gives with the parameters at v; what lies past the end of v counts as 0
-unfoldable pub levelAt : Form → List ℕ → ℕ
-levelAt f v = passed (pass (f .tests) v) (max (f .base) (pick (f .weights) v))
-
-abbrev pub levelsAt : List Form → List ℕ → List ℕ
-levelsAt fs v = map (λ f. levelAt f v) fs
-
--- how many parameters the code's numbers hold: an instance's and an operator's own
+-- how many parameters a form has room for
 abbrev pub width : ℕ
-width = 2 * maxArity
+width = 16
 
-abbrev pub Fit : Form → Type 0
-Fit f = f .weights < 2 ^ width
+-- what the labels in w make of levels, the lowest digit of the first
+abbrev pub gives : ℕ → List ℕ → ℕ
+gives w [] = 0
+gives w (x ∷ v) = bitOr (under w (coded x)) (gives (w / 8) v)
 
-abbrev pub tests : Bool → ℕ → ℕ → ℕ → ℕ → ℕ → Tests
-tests b o t h p s = record { bad = b; one = o; two = t; three = h; plain = p; strong = s }
+-- the bits of a form's level
+unfoldable pub bitsAt : ℕ → List ℕ → ℕ
+bitsAt w v = bitOr (whole w) (gives (w / 8) v)
 
-abbrev pub form : Tests → ℕ → ℕ → Form
-form t b w = record { tests = t; base = b; weights = w }
+-- a form's level
+unfoldable pub levelAt : ℕ → List ℕ → ℕ
+levelAt w v = levelOf (bitsAt w v)
 
--- what stands past the end of an array of forms
-abbrev pub blank : Form
-blank = form (tests false 0 0 0 0 0) 0 0
+-- A contract speaks of a form through the levels that it gives, at all levels of the parameters that it has room for; a level above 4 counts as 4.
+pub record Gives (w : ℕ) (level : List ℕ → ℕ) : Type 0 where
+  pub at : (v : List ℕ) → length v ≤ width → levelAt w v ≡ level v
 
-pub record AllFit (gs : List Form) : Type 0 where
-  pub fits : (i : ℕ) → Fit (getD gs i blank)
+-- Within the walk over a text it speaks of their bits.
+pub record GivesBits (w : ℕ) (bits : List ℕ → ℕ) : Type 0 where
+  pub at : (v : List ℕ) → length v ≤ width → bitsAt w v ≡ bits v
 
--- A contract speaks of a form through the levels that it gives, whatever the parameters' levels and their number,
-pub record Gives (f : Form) (level : List ℕ → ℕ) : Type 0 where
-  pub fit : Fit f
-  pub at : (v : List ℕ) → levelAt f v ≡ level v
+-- the levels of the parameters from i on, k of them; a level above 4 counts as 4
+abbrev pub paramLevels : ℕ → ℕ → List ℕ → List ℕ
+paramLevels i k v = map (λ j. min incorrect (getD v j 0)) (numbersFrom i k)
 
--- and of tests through what passes them.
-pub record Tells (t : Tests) (passes : List ℕ → Bool) : Type 0 where
-  pub at : (v : List ℕ) → pass t v ≡ passes v
+-- the form f with the parameters from i on added, k of them, each under its label inside l, and the labels that are left
+pub record Leads (f l w i k : ℕ) (r : Led) : Type 0 where
+  pub form : GivesBits (r .form) (λ v. bitOr (bitsAt f v) (under l (gives w (paramLevels i k v))))
+  pub labels : r .labels ≡ w / 8 ^ k
 
--- the parameters whose levels are above 0, 1, 2 and 3
-unfoldable pub aboves : List ℕ → Above
-aboves v = record { positive = above 0 v; one = above 1 v; two = above 2 v; three = above 3 v }
+-- A table of forms: the form at place g, and the table with f at place g.
+abbrev pub formAt : List ℕ → ℕ → ℕ
+formAt t g = getD t g 0
+
+abbrev pub stored : List ℕ → ℕ → ℕ → List ℕ
+stored t g f = set t g f

@@ -1,4 +1,2 @@
-pub mod Sets
+pub mod Labels
 pub mod Forms
-pub mod Numbers
-pub mod Tables

@@ -1,10 +1,12 @@
 -- An INSTANCE field whose first seven causes are clear is judged as the rules judge it, and if it is lawful all stands after it.
-use mathlib.Core.Bool.{Bool, false, true}
+use borrow.Author.Tests.{eqb-false, eqb-true}
+use mathlib.Core.Bool.{Bool, cond, false, true}
 use mathlib.Core.List.{List, [], _++_, _∷_}
 use mathlib.Core.Logic.{inl, inr}
 use mathlib.Core.Option.{none}
 use mathlib.Core.Path.{_∙_, _≡_, ap, ap₂, refl, subst, sym}
-use lib.ListN.{getD, length, length-append}
+use lib.Dec.{eqb}
+use lib.ListN.{drop, getD, length, length-append, take}
 use native.Mathlib.Nat.{zero-add}
 use native.Mathlib.Omega.{arith}
 use Prim.Native.Nat.{_+_, _*_, _<_, _≤_, ℕ}
@@ -21,23 +23,24 @@ use Rattle.context.specs.declared.Counts.{Counts}
 use Rattle.entering.specs.Substitutes.{around}
 use Rattle.entering.specs.Written.{writtenAt}
 use Rattle.fields.specs.declared.Parts.the-variants.{Instance}
-use Rattle.forms.specs.Forms.{levelAt}
-use Rattle.forms.specs.Tables.{formAt}
+use Rattle.forms.specs.Forms.{formAt, levelAt}
 use Rattle.instancing.specs.Bringing.{instancing}
 use Rattle.instance_names.specs.Names.{Agrees, NamesRight}
+use Rattle.judge_plain.proofs.Premises.{no-cause-left}
+use Rattle.judge_plain.specs.Causes.{answer, judged}
 use Rattle.judge_plain.specs.Judges.{causeNumber}
 use Rattle.judge_plain.specs.declared.Judged.{Judged}
 use Rattle.judge_plain.specs.declared.Phase.{Phase}
 use Rattle.judge_plain.specs.declared.Phase.the-variants.{Inside}
 use Rattle.laws.proofs.Causes.{clear-field}
-use Rattle.levels.proofs.Named.{numbers-at}
+use Rattle.levels.proofs.Numbered.{numbers-at}
 use Rattle.limits.specs.Limits.{maxArity, maxDefinitions}
 use Rattle.limits.specs.Sizes.{maxFields}
 use Rattle.resolve.proofs.Numbers.{declarationsOf}
 use Rattle.rules.specs.Add.{add}
 use Rattle.rules.specs.Field.{Field, Substitution, instance, writeField}
 use Rattle.rules.specs.Instance.{broughtAll, source, substitute, substitutionFor}
-use Rattle.rules.specs.Judge.{broughtNotLevelCorrect, hasNamedInstance, judge, substituteNotLevelCorrect, unlawfulSubstitute}
+use Rattle.rules.specs.Judge.{Cause, broughtNotLevelCorrect, causes, firstCause, hasNamedInstance, judge}
 use Rattle.rules.specs.State.{Module, State, noDefinition, templatesOf}
 use Rattle.standing.proofs.Adding.{stands-defined}
 use Rattle.standing.proofs.Advancing.{room}
@@ -56,11 +59,11 @@ use Rattle.worlds.specs.Rows.{Row, rowsAfter}
 use Rattle.judge_instance.proofs.Brought.{cause-15, count-new, few-new, few-params, formed, small-after, sound-after}
 use Rattle.judge_instance.proofs.Chaining.{chained-after}
 use Rattle.judge_instance.proofs.Covering.{declared-after}
-use Rattle.judge_instance.proofs.Deciding.{cleared, judge-last, lastCauses}
+use Rattle.judge_instance.proofs.Deciding.{after-levels, after-names, cleared, first-of}
 use Rattle.judge_instance.proofs.Field.{rows-kept}
 use Rattle.judge_instance.proofs.Holding.{holds-after}
-use Rattle.judge_instance.proofs.LevelLaws.{cause-12, cause-14, constant-law}
-use Rattle.judge_instance.specs.Brought.{broughtAnswer}
+use Rattle.judge_instance.proofs.LevelLaws.{levels-law}
+use Rattle.judge_instance.specs.Brought.{broughtCause, broughtCauses}
 use Rattle.judge_instance.specs.Cleared.{Cleared}
 use Rattle.judge_instance.specs.Levels.{LevelsJudged, levelsCause}
 
@@ -81,8 +84,11 @@ module _ (file : List ℕ) (fs : List Field) (s : State) (rs : List Row) (v : St
   found : source s m ≡ moduleNo s q
   found = source-law v c s (stands .holds) m q refl earlier
 
-  pub clear : Cleared s n p m ss
-  clear = cleared s n p m ss (sym (names .cause) ∙ zero₁)
+  none-before : causeNumber (firstCause (take 7 (causes s (instance n p m ss)))) ≡ 0
+  none-before = sym (names .cause) ∙ zero₁
+
+  pub clear : Cleared s p m ss
+  clear = cleared s n p m ss none-before
 
   room-here : c .fields < maxFields
   room-here = room file fs s rs v c ph refs words declared stands (Instance n p m k at) f there
@@ -103,7 +109,7 @@ module _ (file : List ℕ) (fs : List Field) (s : State) (rs : List Row) (v : St
   pub few : c .definitions + getD (v .heads) (orderSlot q) 0 ≤ maxDefinitions
   few = omega (arith, order-length, stands .holds .definitions, few-new s (stands .good) n p m ss (there .fits) clear)
 
-  -- what the code of causes 12 and 14 asks
+  -- what the code of causes 12, 14 and 21 asks
   abbrev pub end : ℕ
   end = s .bytes + length (writeField (instance n p m ss))
 
@@ -116,52 +122,23 @@ module _ (file : List ℕ) (fs : List Field) (s : State) (rs : List Row) (v : St
   module _ (r₂ : ℕ)
       (levels : LevelsJudged (around file refs′ itselves words (v .names) (v .facts) (v .contexts) (v .heads))
       (record { outer = 0; params = p; owner = c .modules; start = at; count = k }) (codesOf v q) (orderOf (v .orders) (v .heads) q) r₂) where
-    is-12 : levels .bad ≡ substituteNotLevelCorrect s p (source s m) ss
-    is-12 =
-        cause-12 v c s (stands .holds) fs (stands .declares) (stands .origins) (stands .good) words (stands .forms) (stands .codes .few) p m q at k ss earlier found
-        small-params (clear .known) formed-here file refs′ end agrees false (levels .bad) (levels .tested-12)
-
-    is-14 : levels .bad ≡ false → levels .unlawful ≡ unlawfulSubstitute s p (source s m) ss
-    is-14 z =
-        cause-14 v c s (stands .holds) fs (stands .declares) (stands .origins) (stands .good) words (stands .forms) (stands .codes .few) p m q at k ss earlier found
-        small-params (clear .known) formed-here file refs′ end agrees _ (levels .unlawful)
-        (constant-law v c s (stands .holds) fs (stands .declares) (stands .origins) (stands .good) words (stands .forms) (stands .codes .few) p m q at k ss earlier found
-        small-params (clear .known) formed-here file refs′ end agrees)
-        (levels .tested-14 z)
+    -- it is the number of the rules' causes of levels
+    is-number : r₂ ≡ causeNumber (firstCause (take 3 (drop 7 (causes s (instance n p m ss)))))
+    unfolding levelsCause
+    is-number =
+        levels .cause
+        ∙ ap (λ (cs : List Cause). causeNumber (firstCause cs))
+        (levels-law v c s (stands .holds) fs (stands .declares) (stands .origins) (stands .good) words (stands .forms) (stands .codes .few) p m q at k ss earlier found
+        small-params (clear .known) formed-here file refs′ end agrees (levels .constant) (levels .constancy) (levels .seen) (levels .levels))
 
     -- a cause of these that holds is the rules' first
     pub levels-refused : (r₂ ≡ 0 → ⊥) → r₂ ≡ causeNumber (judge s (instance n p m ss))
-    levels-refused nz = go (levels .bad) refl (levels .unlawful) refl
-      where
-        last : judge s f ≡ lastCauses s n p m ss (substituteNotLevelCorrect s p (source s m) ss) (unlawfulSubstitute s p (source s m) ss) (broughtNotLevelCorrect s p (source s m) ss) (hasNamedInstance (source s m))
-        last = judge-last s n p m ss clear
+    levels-refused nz =
+        is-number ∙ first-of 3 (drop 7 (causes s (instance n p m ss))) (λ z. nz (is-number ∙ z)) ∙ sym (ap causeNumber (after-names s n p m ss none-before))
 
-        go : (b : Bool) → levels .bad ≡ b → (u : Bool) → levels .unlawful ≡ u → r₂ ≡ causeNumber (judge s f)
-        go true e u z =
-            levels .cause ∙ ap (λ (b : Bool). levelsCause b (levels .unlawful)) e
-            ∙ sym (ap causeNumber (last ∙ ap (λ (b : Bool). lastCauses s n p m ss b (unlawfulSubstitute s p (source s m) ss) (broughtNotLevelCorrect s p (source s m) ss) (hasNamedInstance (source s m))) (sym is-12 ∙ e)))
-        go false e true z =
-            levels .cause ∙ ap (λ (b : Bool). levelsCause b (levels .unlawful)) e ∙ ap (levelsCause false) z
-            ∙ sym (ap causeNumber (last ∙ ap (λ (b : Bool). lastCauses s n p m ss b (unlawfulSubstitute s p (source s m) ss) (broughtNotLevelCorrect s p (source s m) ss) (hasNamedInstance (source s m))) (sym is-12 ∙ e)
-            ∙ ap (λ (b : Bool). lastCauses s n p m ss false b (broughtNotLevelCorrect s p (source s m) ss) (hasNamedInstance (source s m))) (sym (is-14 e) ∙ z)))
-        go false e false z = absurd (nz (levels .cause ∙ ap (λ (b : Bool). levelsCause b (levels .unlawful)) e ∙ ap (levelsCause false) z))
-
-    -- and if none of them holds, 15 and 16 are left
-    pub levels-cleared : r₂ ≡ 0
-        → judge s (instance n p m ss) ≡ lastCauses s n p m ss false false (broughtNotLevelCorrect s p (source s m) ss) (hasNamedInstance (source s m))
-    levels-cleared zr = go (levels .bad) refl (levels .unlawful) refl
-      where
-        is : (b u : Bool) → levels .bad ≡ b → levels .unlawful ≡ u → levelsCause b u ≡ 0
-        is b u e z = sym (levels .cause ∙ ap (λ (b : Bool). levelsCause b (levels .unlawful)) e ∙ ap (levelsCause b) z) ∙ zr
-
-        go : (b : Bool) → levels .bad ≡ b → (u : Bool) → levels .unlawful ≡ u
-            → judge s f ≡ lastCauses s n p m ss false false (broughtNotLevelCorrect s p (source s m) ss) (hasNamedInstance (source s m))
-        go true e u z = absurd (let w = is true u e z in omega arith)
-        go false e true z = absurd (let w = is false true e z in omega arith)
-        go false e false z =
-            judge-last s n p m ss clear
-            ∙ ap (λ (b : Bool). lastCauses s n p m ss b (unlawfulSubstitute s p (source s m) ss) (broughtNotLevelCorrect s p (source s m) ss) (hasNamedInstance (source s m))) (sym is-12 ∙ e)
-            ∙ ap (λ (b : Bool). lastCauses s n p m ss false b (broughtNotLevelCorrect s p (source s m) ss) (hasNamedInstance (source s m))) (sym (is-14 e) ∙ z)
+    -- and if none of them holds, those of what is brought are left
+    pub levels-cleared : r₂ ≡ 0 → judge s (instance n p m ss) ≡ firstCause (drop 3 (drop 7 (causes s (instance n p m ss))))
+    levels-cleared zr = after-names s n p m ss none-before ∙ after-levels s n p m ss (sym is-number ∙ zr)
 
   -- Bringing
 
@@ -244,36 +221,31 @@ module _ (file : List ℕ) (fs : List Field) (s : State) (rs : List Row) (v : St
     stands₁ lawful =
         stands-defined file fs s rs v c ph refs words declared stands (Instance n p m k at) f there lawful v₁ c₁ Inside refs′
         (holds-after v c s (stands .holds) (stands .good) (stands .within) room-here n p m q at (k + ownerShift * c .modules) ss earlier found few (stands .paths) small-params
-        (clear-field s f lawful .1 .1 .1 .1 .1 .1 .1 .1 .1 .1 .0))
+        (clear-field s f lawful .1 .1 .1 .1 .1 .1 .1 .1 .1 .1 .1 .0))
         refl rows words′ (broughtAll s n p (source s m) ss) refl refl (names .noted) (names .size ∙ stands .refs-size) (forms .size ∙ stands .words-size)
         (λ g l. forms .others g (inl l)) (λ d l. forms .others (maxDefinitions + d) (inr (omega (arith, few)))) (λ g us a l e z. new-forms .0 g us l e z) (λ D a l. chained₁ .each D l)
 
     -- The answer is the rules', and if no cause holds all stands.
-    pub brought-advances : (r : Judged)
-        → judge s (instance n p m ss) ≡ lastCauses s n p m ss false false (broughtNotLevelCorrect s p (source s m) ss) (hasNamedInstance (source s m))
-        → r ≡ broughtAnswer bad (instanceAmong (v .facts) (codesOf v q)) ph c (getD (v .heads) (orderSlot q) 0)
+    pub brought-advances : (r : Judged) → judge s (instance n p m ss) ≡ firstCause (drop 3 (drop 7 (causes s (instance n p m ss))))
+        → r ≡ answer (broughtCause bad (instanceAmong (v .facts) (codesOf v q))) ph c Inside (afterDefinitions (getD (v .heads) (orderSlot q) 0) c)
         → Advances file fs s rs (instance n p m ss) r v₁ refs′ words′ declared
-    brought-advances r last e = go bad refl (instanceAmong (v .facts) (codesOf v q)) refl
+    unfolding answer broughtCause broughtCauses
+    brought-advances r last e = go (eqb number 0) refl e
       where
-        judged-as : (b u : Bool) → bad ≡ b → instanceAmong (v .facts) (codesOf v q) ≡ u → judge s f ≡ lastCauses s n p m ss false false b u
-        judged-as b u x y = last ∙ ap₂ (lastCauses s n p m ss false false) (sym is-15 ∙ x) (sym is-16 ∙ y)
+        number : ℕ
+        number = broughtCause bad (instanceAmong (v .facts) (codesOf v q))
 
-        answered : (b u : Bool) → bad ≡ b → instanceAmong (v .facts) (codesOf v q) ≡ u → r ≡ broughtAnswer b u ph c (getD (v .heads) (orderSlot q) 0)
-        answered b u x y = e ∙ ap₂ (λ (b u : Bool). broughtAnswer b u ph c (getD (v .heads) (orderSlot q) 0)) x y
+        is-number : number ≡ causeNumber (judge s f)
+        is-number = ap (λ (cs : List Cause). causeNumber (firstCause cs)) (ap₂ broughtCauses is-15 is-16) ∙ sym (ap causeNumber last)
 
-        go : (b : Bool) → bad ≡ b → (u : Bool) → instanceAmong (v .facts) (codesOf v q) ≡ u → Advances file fs s rs f r v₁ refs′ words′ declared
-        go true x u y =
-            let a = answered true u x y in
-            let z : r .cause ≡ 15 = ap (λ (j : Judged). j .cause) a in
-            record { cause = z ∙ sym (ap causeNumber (judged-as true u x y)); stands = λ (w : r .cause ≡ 0). absurd (omega arith) }
-        go false x true y =
-            let a = answered false true x y in
-            let z : r .cause ≡ 16 = ap (λ (j : Judged). j .cause) a in
-            record { cause = z ∙ sym (ap causeNumber (judged-as false true x y)); stands = λ (w : r .cause ≡ 0). absurd (omega arith) }
-        go false x false y =
-            let a = answered false false x y in
-            let lawful : judge s f ≡ none = judged-as false false x y in
+        go : (b : Bool) → eqb number 0 ≡ b → r ≡ cond b (judged 0 Inside c₁) (judged number ph c) → Advances file fs s rs f r v₁ refs′ words′ declared
+        go true x a =
+            let z : number ≡ 0 = eqb-true number 0 x in
+            let y : causeNumber (judge s f) ≡ 0 = sym is-number ∙ z in
             record {
-              cause = ap (λ (j : Judged). j .cause) a ∙ sym (ap causeNumber lawful);
-              stands = λ w. subst (λ (j : Judged). Standing file (fs ++ (f ∷ [])) s₁ rs₁ v₁ (j .counts) (j .phase) refs′ words′ declared) (sym a) (stands₁ lawful);
+              cause = ap (λ (j : Judged). j .cause) a ∙ sym y;
+              stands = λ w. subst (λ (j : Judged). Standing file (fs ++ (f ∷ [])) s₁ rs₁ v₁ (j .counts) (j .phase) refs′ words′ declared) (sym a) (stands₁ (no-cause-left s f y));
             }
+        go false x a =
+            let z : r .cause ≡ number = ap (λ (j : Judged). j .cause) a in
+            record { cause = z ∙ is-number; stands = λ (w : r .cause ≡ 0). absurd (eqb-false number 0 x (sym z ∙ w)) }

@@ -48,7 +48,7 @@ zero-length (suc n) = ap suc (zero-length n)
 zero-levels : (n : ℕ) → All IsLevel (zeros n)
 zero-levels n = replicate-all IsLevel n 0 (omega arith)
 
-module _ (s : State) (good : Good s) (n p m : ℕ) (ss : List Substitution) (fits : FieldFits (instance n p m ss)) (cleared : Cleared s n p m ss) where
+module _ (s : State) (good : Good s) (n p m : ℕ) (ss : List Substitution) (fits : FieldFits (instance n p m ss)) (cleared : Cleared s p m ss) where
   abbrev M : Module
   M = source s m
 

@@ -1,5 +1,5 @@
 -- From what the parts of `instance_field` promise to what it promises, and what it asks of them.
-use borrow.Author.Tests.{eqb-false, eqb-true}
+use borrow.Author.Tests.{eqb-false, eqb-true, ne-eqb}
 use lib.Dec.{eqb}
 use mathlib.Core.Bool.{Bool, cond, false, true}
 use mathlib.Core.List.{List}
@@ -16,7 +16,7 @@ use Rattle.entering.specs.Substitutes.{around}
 use Rattle.fields.specs.declared.Parts.the-variants.{Instance}
 use Rattle.instance_names.specs.Names.{NamesJudged}
 use Rattle.instancing.specs.Bringing.{instancing}
-use Rattle.judge_plain.specs.Causes.{judged, refusal}
+use Rattle.judge_plain.specs.Causes.{answer, judged, refusal}
 use Rattle.judge_plain.specs.Judges.{causeNumber}
 use Rattle.judge_plain.specs.declared.Judged.{Judged}
 use Rattle.judge_plain.specs.declared.Phase.{Phase}
@@ -33,7 +33,7 @@ use Rattle.standing.specs.Standing.{Advances, AtField, Judging, Underway, itsel
 use Rattle.worlds.specs.Rows.{Row}
 use Rattle.judge_instance.proofs.Advances.{brought-advances, earlier, few, levels-cleared, levels-refused, small-params}
 use Rattle.judge_instance.proofs.Deciding.{first-of}
-use Rattle.judge_instance.specs.Brought.{Bringable, FieldBrought, FieldLawful, answerBrought, broughtAnswer}
+use Rattle.judge_instance.specs.Brought.{Bringable, FieldBrought, FieldLawful, broughtCause, broughtCauses}
 use Rattle.judge_instance.specs.Levels.{LevelsJudged}
 
 -- the field that the parts tell of
@@ -76,7 +76,7 @@ module _ (file : List ℕ) (v : Store) (c : Counts) (ph : Phase) (n p m k at cau
           subst (λ (q : ℕ). LevelsJudged (around file refs′ itselves words (v .names) (v .facts) (v .contexts) (v .heads))
           (record { outer = 0; params = p; owner = c .modules; start = at; count = k }) (codesOf v q) (orderOf (v .orders) (v .heads) q) unlawful) eq levels
 
-      -- 12 or 14
+      -- a cause of levels
       judging-levels : (r : Judged) (v′ : Store) (words′ : List ℕ) → (unlawful ≡ 0 → ⊥) → r ≡ refusal unlawful ph c
           → Judging file (Instance n p m k at) v v′ c ph r refs refs′ words words′ declared declared
       judging-levels r v′ words′ nz e =
@@ -89,7 +89,7 @@ module _ (file : List ℕ) (v : Store) (c : Counts) (ph : Phase) (n p m k at cau
                 (levels-refused file fs s rs v c ph refs words declared stands n p m k at ss t cause refs′ right zr unlawful levels-there nz));
           }
 
-      -- 15, 16 or none
+      -- a cause of what is brought, or none
       judging-brought : unlawful ≡ 0 → (r : Judged) (v′ : Store) (words′ : List ℕ) → FieldBrought file refs′ v v′ c ph n p q k at words words′ declared r
           → Judging file (Instance n p m k at) v v′ c ph r refs refs′ words words′ declared declared
       judging-brought zu r v′ words′ b =
@@ -106,7 +106,7 @@ module _ (file : List ℕ) (v : Store) (c : Counts) (ph : Phase) (n p m k at cau
                 (getD (v .heads) (orderSlot (placeOf m (part (v .heads) 0 (c .modules)))) 0) words words′ (b .bad)) stored
                 (subst (λ (q : ℕ). BroughtForms file refs′ v′ declared (c .declarations) (c .definitions) (getD (v .heads) (orderSlot q) 0) words words′ (b .bad)) eq (b .forms)))
                 r (levels-cleared file fs s rs v c ph refs words declared stands n p m k at ss t cause refs′ right zr unlawful levels-there zu)
-                (b .answer ∙ ap (λ (q : ℕ). broughtAnswer (b .bad) (instanceAmong (v .facts) (codesOf v q)) ph c (getD (v .heads) (orderSlot q) 0)) eq)));
+                (b .answered ∙ ap (λ (q : ℕ). answer (broughtCause (b .bad) (instanceAmong (v .facts) (codesOf v q))) ph c Inside (afterDefinitions (getD (v .heads) (orderSlot q) 0) c)) eq)));
           }
 
     -- the causes that are left
@@ -168,31 +168,39 @@ pub brought-done : (file refs names facts contexts orders heads names′ facts�
     → named ≡ instanceAmong facts (contextCodes contexts heads q) → d ≡ afterDefinitions (getD heads (orderSlot q) 0) c
     → store names′ facts′ contexts′ orders′ heads′ ≡ instancing c n p q at (k + ownerShift * c .modules) (store names facts contexts orders heads)
     → BroughtForms file refs (store names′ facts′ contexts′ orders′ heads′) declared (c .declarations) (c .definitions) (d .definitions - c .definitions) words words′ bad
-    → r ≡ answerBrought bad named ph c d
+    → r ≡ answer (broughtCause bad named) ph c Inside d
     → FieldBrought file refs (store names facts contexts orders heads) (store names′ facts′ contexts′ orders′ heads′) c ph n p q k at words words′ declared r
-unfolding answerBrought
 brought-done file refs names facts contexts orders heads names′ facts′ contexts′ orders′ heads′ words words′ declared c ph n p q k at named bad d r en ed es b er =
     let z : d .definitions - c .definitions ≡ getD heads (orderSlot q) 0 = ap (λ (x : Counts). x .definitions - c .definitions) ed ∙ omega arith in
     record {
       bad = bad;
       stored = es;
       forms = subst (λ (i : ℕ). BroughtForms file refs (store names′ facts′ contexts′ orders′ heads′) declared (c .declarations) (c .definitions) i words words′ bad) z b;
-      answer = er ∙ ap₂ (λ (u : Bool) (x : Counts). cond bad (refusal 15 ph c) (cond u (refusal 16 ph c) (judged 0 Inside x))) en ed;
+      answered = er ∙ ap₂ (λ (u : Bool) (x : Counts). answer (broughtCause bad u) ph c Inside x) en ed;
     }
 
--- brought_answer
-module _ (bad named : Bool) (ph : Phase) (c d : Counts) where
-  pub answer-15 : (r : Judged) → bad ≡ true → r ≡ refusal 15 ph c → r ≡ answerBrought bad named ph c d
-  unfolding answerBrought
-  answer-15 r e h = rw e h
+-- brought_cause, brought_answer
+module _ (bad named : Bool) where
+  pub brought-15 : bad ≡ true → 15 ≡ broughtCause bad named
+  unfolding broughtCause broughtCauses
+  brought-15 e = rw e refl
 
-  pub answer-16 : (r : Judged) → bad ≡ false → named ≡ true → r ≡ refusal 16 ph c → r ≡ answerBrought bad named ph c d
-  unfolding answerBrought
-  answer-16 r e f h = rw (e, f) h
+  pub brought-16 : bad ≡ false → named ≡ true → 16 ≡ broughtCause bad named
+  unfolding broughtCause broughtCauses
+  brought-16 e f = rw (e, f) refl
 
-  pub answer-none : bad ≡ false → named ≡ false → judged 0 Inside d ≡ answerBrought bad named ph c d
-  unfolding answerBrought
-  answer-none e f = rw (e, f) refl
+  pub brought-none : bad ≡ false → named ≡ false → 0 ≡ broughtCause bad named
+  unfolding broughtCause broughtCauses
+  brought-none e f = rw (e, f) refl
+
+module _ (cause wanted : ℕ) (ph : Phase) (c d : Counts) (e : cause ≡ wanted) where
+  pub answer-refused : (r : Judged) → (cause ≡ 0 → ⊥) → r ≡ refusal cause ph c → r ≡ answer wanted ph c Inside d
+  unfolding answer
+  answer-refused r n h = h ∙ ap (λ (x : ℕ). judged x ph c) e ∙ ap (λ (b : Bool). cond b (judged 0 Inside d) (judged wanted ph c)) (sym (ne-eqb wanted 0 (λ (z : wanted ≡ 0). n (e ∙ z))))
+
+  pub answer-lawful : cause ≡ 0 → judged 0 Inside d ≡ answer wanted ph c Inside d
+  unfolding answer
+  answer-lawful z = ap (λ (x : ℕ). cond (eqb x 0) (judged 0 Inside d) (judged x ph c)) (sym z ∙ e)
 
 -- forms_between: what it asks
 pub between-fits : (names facts contexts orders heads words : List ℕ) (c d : Counts) (p q at : ℕ) → Bringable names facts contexts orders heads words c p q at

@@ -1,5 +1,5 @@
 -- One lemma for each way through the functions that judge the levels of substitutes.
-use borrow.Author.Tests.{eq-eqb, eqb-true, lt-ltb, le-ltb, ne-eqb}
+use borrow.Author.Tests.{eq-eqb, eqb-true, ne-eqb}
 use mathlib.Core.Bool.{Bool, _&&_, _||_, cond, false, not, true}
 use mathlib.Core.List.{List, _∷_}
 use mathlib.Core.Path.{_∙_, _≡_, ap, ap₂, refl, subst, sym}
@@ -11,31 +11,31 @@ use Rattle.context.proofs.Judging.{kindAnswered, kindOf}
 use Rattle.context.proofs.Parts.{part-end, part-turn}
 use Rattle.context.specs.Lookup.{asCode, declaredNamed, isDeclared, operatorIn}
 use Rattle.context.specs.Parts.{part}
-use Rattle.context.specs.Store.{contextCodes, contextSlot, kindAt, orderOf, orderSlot, variableKind}
+use Rattle.context.specs.Store.{contextCodes, contextSlot, kindAt}
 use Rattle.context.specs.declared.Operator.{Operator}
 use Rattle.context.specs.declared.Operator.the-variants.{Constant, Variable, Defined, Unknown}
 use Rattle.entering.specs.Substitutes.{Around, Stands, around}
 use Rattle.entering.specs.declared.substitutes.Site.{Site}
 use Rattle.forms.specs.Forms.{levelAt}
-use Rattle.forms.specs.Tables.{formAt}
-use Rattle.forms.specs.declared.Form.{Form}
 use Rattle.limits.specs.Limits.{maxDefinitions}
 use Rattle.limits.specs.Sizes.{columnCount, contextLength}
 use Rattle.rules.specs.Instance.{isKind, lawful}
 use Rattle.standing.specs.Standing.{itselves}
 use Rattle.theory.proofs.Lists.{never}
-use Rattle.theory.specs.Lists.{any, numbersFrom}
-use Rattle.theory.specs.Term.{constant, variable}
-use Rattle.judge_instance.specs.Levels.{LevelFound, LevelsJudged, Tested, answers, constantCodes, fails, isFree, isVariableCode, ownKind, unevenAmong, unevenForm, variableAmong}
+use Rattle.theory.specs.Lists.{numbersFrom}
+use Rattle.theory.specs.Term.{Kind, constant, variable}
+use Rattle.judge_instance.specs.Constancy.{constantCodes}
+use Rattle.judge_instance.specs.Levels.{LevelFound, LevelsJudged, LevelsSeen, Tested, answers, isAt, isFree, isIncorrect, isMixed, isUnlawful, levelCauses, levelsCause, ownKind, seenWith}
+use Rattle.judge_instance.specs.declared.lawful.Seen.{Seen}
 
-eqb-turn : (a b : ℕ) → eqb a b ≡ eqb b a
+pub eqb-turn : (a b : ℕ) → eqb a b ≡ eqb b a
 eqb-turn a b = go (eqb a b) refl
   where
     go : (t : Bool) → eqb a b ≡ t → t ≡ eqb b a
     go true e = sym (eq-eqb b a (sym (eqb-true a b e)))
     go false e = sym (ne-eqb b a (λ (z : b ≡ a). never (sym (eq-eqb a b (sym z)) ∙ e)))
 
--- is_free, is_lawful, is_refused
+-- is_free, is_lawful
 module _ (b : Bool) (kind : ℕ) where
   pub free-zero : kind ≡ 0 → b ≡ isFree b kind
   unfolding isFree
@@ -67,13 +67,52 @@ module _ (b : Bool) (kind : ℕ) where
         go zero false z = refl
         go (suc k) y z = refl
 
-    pub refused-12 : (cause : ℕ) → cause ≡ 12 → eqb level 4 ≡ fails cause b kind level
-    unfolding fails
-    refused-12 cause e = rw e (eqb-turn level 4)
+-- either, both, with_level
+pub either-first : (a b : Bool) → a ≡ true → true ≡ (a || b)
+either-first a b e = rw e refl
 
-    pub refused-14 : (cause : ℕ) (f : Bool) → (cause ≡ 12 → ⊥) → f ≡ lawful b (kindOf kind) level → not f ≡ fails cause b kind level
-    unfolding fails
-    refused-14 cause f n e = rw (ne-eqb cause 12 n) (ap not e)
+pub either-second : (a b : Bool) → a ≡ false → b ≡ (a || b)
+either-second a b e = rw e refl
+
+pub both-second : (a b : Bool) → a ≡ true → b ≡ (a && b)
+both-second a b e = rw e refl
+
+pub both-not : (a b : Bool) → a ≡ false → false ≡ (a && b)
+both-not a b e = rw e refl
+
+pub with-level : (b : Bool) (seen : Seen) (kind level : ℕ) (x u t m lawfully : Bool) → lawfully ≡ lawful b (kindOf kind) level → x ≡ (seen .incorrect || eqb level 4)
+    → u ≡ (seen .unlawful || not lawfully) → t ≡ (seen .transition || eqb level 2) → m ≡ (seen .temporal || eqb level 3)
+    → record { incorrect = x; unlawful = u; transition = t; temporal = m } ≡ seenWith b seen (kindOf kind) level
+unfolding seenWith
+with-level b seen kind level x u t m lawfully e ex eu et em =
+    rw (ex, eu, et, em, e, eqb-turn level 4, eqb-turn level 2, eqb-turn level 3) refl
+
+-- is_mixed, cause_seen
+module _ (b : Bool) (seen : Seen) where
+  pub mixed-constant : (r : Bool) → b ≡ true → r ≡ (seen .transition && seen .temporal) → r ≡ isMixed b seen
+  unfolding isMixed
+  mixed-constant r e h = rw e h
+
+  pub mixed-other : b ≡ false → false ≡ isMixed b seen
+  unfolding isMixed
+  mixed-other e = rw e refl
+
+  pub seen-12 : seen .incorrect ≡ true → 12 ≡ levelsCause b seen
+  unfolding levelsCause levelCauses
+  seen-12 e = rw e refl
+
+  pub seen-14 : seen .incorrect ≡ false → seen .unlawful ≡ true → 14 ≡ levelsCause b seen
+  unfolding levelsCause levelCauses
+  seen-14 e f = rw (e, f) refl
+
+  module _ (r : Bool) (h : r ≡ isMixed b seen) where
+    pub seen-21 : seen .incorrect ≡ false → seen .unlawful ≡ false → r ≡ true → 21 ≡ levelsCause b seen
+    unfolding levelsCause levelCauses
+    seen-21 e f g = rw (sym h, g, e, f) refl
+
+    pub seen-0 : seen .incorrect ≡ false → seen .unlawful ≡ false → r ≡ false → 0 ≡ levelsCause b seen
+    unfolding levelsCause levelCauses
+    seen-0 e f g = rw (sym h, g, e, f) refl
 
 -- is_answer
 module _ (kind : ℕ) (x : Operator) where
@@ -116,156 +155,92 @@ module _ (names facts codes : List ℕ) (o : ℕ) (d : Bool) (e : d ≡ isDeclar
 
 -- level_found
 module _ (a : Around) (site : Site) (codes : List ℕ) (o : ℕ) (b : Bool) (e : b ≡ ownKind (a .names) (a .facts) codes o) where
-  pub level-stood : (f : Form) (l : ℕ) → b ≡ true → Stands a site o f → ((n : ℕ) → l ≡ levelAt f (replicate n 0)) → LevelFound a site codes o l
+  pub level-stood : (f : ℕ) (l : ℕ) → b ≡ true → Stands a site o f → ((n : ℕ) → l ≡ levelAt f (replicate n 0)) → LevelFound a site codes o l
   level-stood f l t s h =
       record { own = λ _. record { form = f; stands = s; level = h }; other = λ z. never (sym t ∙ e ∙ z) }
 
   pub level-none : b ≡ false → LevelFound a site codes o 0
   level-none t = record { own = λ z. never (sym z ∙ sym e ∙ t); other = λ _. refl }
 
--- refused_among: what is left, tested, is the whole
-module _ (a : Around) (site : Site) (codes : List ℕ) (cause : ℕ) (b : Bool) where
-  pub record Left (cs ds : List ℕ) : Type 0 where
-    pub later : (r : Bool) → Tested a site codes cause b cs r → Tested a site codes cause b ds r
+-- seen_among: what was seen, and what is left tested, are the whole
+or-assoc : (a b c : Bool) → a || (b || c) ≡ (a || b) || c
+or-assoc true b c = refl
+or-assoc false b c = refl
 
-  pub left-all : (cs : List ℕ) → Left cs cs
-  left-all cs = record { later = λ r t. t }
+or-false : (a : Bool) → a || false ≡ a
+or-false true = refl
+or-false false = refl
 
-  module _ (xs : List ℕ) (i end : ℕ) (ds : List ℕ) (left : Left (part xs i (end - i)) ds) where
-    turn : i < end → (r : Bool) → Tested a site codes cause b (getD xs i 0 ∷ part xs (i + 1) (end - (i + 1))) r → Tested a site codes cause b ds r
-    turn h r t = left .later r (subst (λ (cs : List ℕ). Tested a site codes cause b cs r) (sym (part-turn xs i end h)) t)
+module _ (a : Around) (site : Site) (codes : List ℕ) where
+  record Left (p : Kind → ℕ → Bool) (before : Bool) (cs ds : List ℕ) : Type 0 where
+    later : (r : Bool) → Tested a site codes p cs r → Tested a site codes p ds (before || r)
 
-    pub left-hit : (o l kind : ℕ) (r : Bool) → i < end → o ≡ getD xs i 0 → LevelFound a site codes o l → kind ≡ getD (a .facts) (columnCount * o) 0 → r ≡ fails cause b kind l
-        → r ≡ true → Tested a site codes cause b ds true
-    left-hit o l kind r h e f k q z =
-        turn h true (record { says = λ t w. one t (subst (λ (o : ℕ). LevelFound a site codes o l) e f) (w .0 l) })
+  left-all : (p : Kind → ℕ → Bool) (cs : List ℕ) → Left p false cs cs
+  left-all p cs = record { later = λ r t. t }
+
+  module _ (xs : List ℕ) (i end : ℕ) (ds : List ℕ) where
+    left-next : (p : Kind → ℕ → Bool) (before : Bool) (l : ℕ) → i < end → LevelFound a site codes (getD xs i 0) l → Left p before (part xs i (end - i)) ds
+        → Left p (before || p (kindOf (kindAt (a .facts) (getD xs i 0))) l) (part xs (i + 1) (end - (i + 1))) ds
+    left-next p before l h f left =
+        record { later = λ r t. subst (Tested a site codes p ds) (or-assoc before this r) (left .later (this || r) (subst (λ (cs : List ℕ). Tested a site codes p cs (this || r)) (sym (part-turn xs i end h)) (one r t))) }
       where
-        same : fails cause b (kindAt (a .facts) (getD xs i 0)) l ≡ true
-        same = ap (λ (n : ℕ). fails cause b n l) (sym (k ∙ ap (kindAt (a .facts)) e)) ∙ sym q ∙ z
+        this : Bool
+        this = p (kindOf (kindAt (a .facts) (getD xs i 0))) l
 
-        one : (t : ℕ → Bool) → LevelFound a site codes (getD xs i 0) l
-            → (LevelFound a site codes (getD xs i 0) l → t (getD xs i 0) ≡ fails cause b (kindAt (a .facts) (getD xs i 0)) l)
-            → true ≡ t (getD xs i 0) || any t (part xs (i + 1) (end - (i + 1)))
-        one t g w = ap (λ (y : Bool). y || any t (part xs (i + 1) (end - (i + 1)))) (sym (w g ∙ same))
+        one : (r : Bool) → Tested a site codes p (part xs (i + 1) (end - (i + 1))) r → Tested a site codes p (getD xs i 0 ∷ part xs (i + 1) (end - (i + 1))) (this || r)
+        one r t = record { says = λ u w. ap₂ _||_ (sym (w .0 l f)) (t .says u (w .1)) }
 
-    pub left-next : (o l kind : ℕ) (r : Bool) → i < end → o ≡ getD xs i 0 → LevelFound a site codes o l → kind ≡ getD (a .facts) (columnCount * o) 0 → r ≡ fails cause b kind l
-        → r ≡ false → Left (part xs (i + 1) (end - (i + 1))) ds
-    left-next o l kind r h e f k q z =
-        record { later = λ r t. turn h r (record { says = λ u w. t .says u (w .1) ∙ one u (w .0 l) }) }
-      where
-        same : fails cause b (kindAt (a .facts) (getD xs i 0)) l ≡ false
-        same = ap (λ (n : ℕ). fails cause b n l) (sym (k ∙ ap (kindAt (a .facts)) e)) ∙ sym q ∙ z
+    left-end : (p : Kind → ℕ → Bool) (before : Bool) → end ≤ i → Left p before (part xs i (end - i)) ds → Tested a site codes p ds before
+    left-end p before h left =
+        subst (Tested a site codes p ds) (or-false before)
+        (left .later false (subst (λ (cs : List ℕ). Tested a site codes p cs false) (sym (part-end xs i end h)) (record { says = λ t w. refl })))
 
-        one : (t : ℕ → Bool) → (LevelFound a site codes (getD xs i 0) l → t (getD xs i 0) ≡ fails cause b (kindAt (a .facts) (getD xs i 0)) l)
-            → any t (part xs (i + 1) (end - (i + 1))) ≡ t (getD xs i 0) || any t (part xs (i + 1) (end - (i + 1)))
-        one t w = ap (λ (y : Bool). y || any t (part xs (i + 1) (end - (i + 1)))) (sym (w (subst (λ (o : ℕ). LevelFound a site codes o l) e f) ∙ same))
+  module _ (b : Bool) where
+    pub record SeenLeft (seen : Seen) (cs ds : List ℕ) : Type 0 where
+      incorrect : Left isIncorrect (seen .incorrect) cs ds
+      unlawful : Left (isUnlawful b) (seen .unlawful) cs ds
+      transition : Left (isAt 2) (seen .transition) cs ds
+      temporal : Left (isAt 3) (seen .temporal) cs ds
 
-    pub left-end : end ≤ i → Tested a site codes cause b ds false
-    left-end h =
-        left .later false (subst (λ (cs : List ℕ). Tested a site codes cause b cs false) (sym (part-end xs i end h)) (record { says = λ t w. refl }))
+    pub seen-start : (cs : List ℕ) → SeenLeft (record { incorrect = false; unlawful = false; transition = false; temporal = false }) cs cs
+    seen-start cs =
+        record { incorrect = left-all isIncorrect cs; unlawful = left-all (isUnlawful b) cs; transition = left-all (isAt 2) cs; temporal = left-all (isAt 3) cs }
 
--- has_refused
-pub refused-whole : (a : Around) (site : Site) (codes : List ℕ) (cause : ℕ) (b r : Bool) (contexts heads : List ℕ) (q count : ℕ) → count ≡ getD heads (contextSlot q) 0
-    → Tested a site codes cause b (part contexts (q * contextLength) (q * contextLength + count - q * contextLength)) r
-    → Tested a site codes cause b (contextCodes contexts heads q) r
-refused-whole a site codes cause b r contexts heads q count e t =
+    module _ (xs : List ℕ) (i end : ℕ) (ds : List ℕ) (seen : Seen) (left : SeenLeft seen (part xs i (end - i)) ds) where
+      pub seen-next : (o l kind : ℕ) (after : Seen) → i < end → o ≡ getD xs i 0 → LevelFound a site codes o l → kind ≡ getD (a .facts) (columnCount * o) 0
+          → after ≡ seenWith b seen (kindOf kind) l → SeenLeft after (part xs (i + 1) (end - (i + 1))) ds
+      unfolding seenWith
+      seen-next o l kind after h e f k r =
+          let g : LevelFound a site codes (getD xs i 0) l = subst (λ (o : ℕ). LevelFound a site codes o l) e f in
+          subst (λ (s : Seen). SeenLeft s (part xs (i + 1) (end - (i + 1))) ds) (ap (λ (n : ℕ). seenWith b seen (kindOf n) l) (sym (k ∙ ap (kindAt (a .facts)) e)) ∙ sym r)
+          (record {
+            incorrect = left-next xs i end ds isIncorrect (seen .incorrect) l h g (left .incorrect);
+            unlawful = left-next xs i end ds (isUnlawful b) (seen .unlawful) l h g (left .unlawful);
+            transition = left-next xs i end ds (isAt 2) (seen .transition) l h g (left .transition);
+            temporal = left-next xs i end ds (isAt 3) (seen .temporal) l h g (left .temporal);
+          })
+
+      pub seen-end : end ≤ i → LevelsSeen a site codes b ds seen
+      seen-end h =
+          record {
+            incorrect = left-end xs i end ds isIncorrect (seen .incorrect) h (left .incorrect);
+            unlawful = left-end xs i end ds (isUnlawful b) (seen .unlawful) h (left .unlawful);
+            transition = left-end xs i end ds (isAt 2) (seen .transition) h (left .transition);
+            temporal = left-end xs i end ds (isAt 3) (seen .temporal) h (left .temporal);
+          }
+
+-- levels_seen
+pub seen-whole : (a : Around) (site : Site) (codes : List ℕ) (b : Bool) (r : Seen) (contexts heads : List ℕ) (q count : ℕ) → count ≡ getD heads (contextSlot q) 0
+    → LevelsSeen a site codes b (part contexts (q * contextLength) (q * contextLength + count - q * contextLength)) r
+    → LevelsSeen a site codes b (contextCodes contexts heads q) r
+seen-whole a site codes b r contexts heads q count e t =
     let z : q * contextLength + count - q * contextLength ≡ count = omega arith in
-    subst (λ (n : ℕ). Tested a site codes cause b (part contexts (q * contextLength) n) r) (z ∙ e) t
-
--- searches for a code or a number that passes a test
-module _ (t : ℕ → Bool) (xs : List ℕ) (i end : ℕ) (w : Bool) (same : any t (part xs i (end - i)) ≡ w) where
-  any-hit : (o : ℕ) (r : Bool) → i < end → o ≡ getD xs i 0 → r ≡ t o → r ≡ true → true ≡ w
-  any-hit o r h e f g =
-      ap (λ (y : Bool). y || any t (part xs (i + 1) (end - (i + 1)))) (sym (sym (f ∙ ap t e) ∙ g)) ∙ ap (any t) (sym (part-turn xs i end h)) ∙ same
-
-  any-next : (o : ℕ) (r : Bool) → i < end → o ≡ getD xs i 0 → r ≡ t o → r ≡ false → any t (part xs (i + 1) (end - (i + 1))) ≡ w
-  any-next o r h e f g =
-      ap (λ (y : Bool). y || any t (part xs (i + 1) (end - (i + 1)))) (sym (sym (f ∙ ap t e) ∙ g)) ∙ ap (any t) (sym (part-turn xs i end h)) ∙ same
-
-  any-end : end ≤ i → false ≡ w
-  any-end h = ap (any t) (sym (part-end xs i end h)) ∙ same
-
--- is_variable, variable_among
-module _ (facts : List ℕ) (o : ℕ) (d : Bool) (e : d ≡ isDeclared facts o) where
-  pub variable-code : (kind : ℕ) (r : Bool) → d ≡ true → kind ≡ getD facts (columnCount * o) 0 → r ≡ eqb kind 256 → r ≡ isVariableCode facts o
-  variable-code kind r t k h = h ∙ ap (λ (n : ℕ). eqb n variableKind) k ∙ ap (λ (b : Bool). b && eqb (kindAt facts o) variableKind) (sym (sym e ∙ t))
-
-  pub variable-other : d ≡ false → false ≡ isVariableCode facts o
-  variable-other t = ap (λ (b : Bool). b && eqb (kindAt facts o) variableKind) (sym (sym e ∙ t))
-
-module _ (facts xs : List ℕ) (i end : ℕ) (w : Bool) (same : variableAmong facts (part xs i (end - i)) ≡ w) where
-  pub variable-hit : (o : ℕ) (r : Bool) → i < end → o ≡ getD xs i 0 → r ≡ isVariableCode facts o → r ≡ true → true ≡ w
-  unfolding variableAmong
-  variable-hit o r h e f g = any-hit (isVariableCode facts) xs i end w same o r h e f g
-
-  pub variable-next : (o : ℕ) (r : Bool) → i < end → o ≡ getD xs i 0 → r ≡ isVariableCode facts o → r ≡ false → variableAmong facts (part xs (i + 1) (end - (i + 1))) ≡ w
-  unfolding variableAmong
-  variable-next o r h e f g = any-next (isVariableCode facts) xs i end w same o r h e f g
-
-  pub variable-end : end ≤ i → false ≡ w
-  unfolding variableAmong
-  variable-end h = any-end (isVariableCode facts) xs i end w same h
-
--- is_uneven, uneven_among
-module _ (words : List ℕ) (g : ℕ) where
-  pub uneven-form : (f : Form) (l : ℕ) → g < maxDefinitions → f ≡ formAt words g → ((n : ℕ) → l ≡ levelAt f (replicate n 0)) → not (eqb l 0) ≡ unevenForm words g
-  uneven-form f l h e k =
-      rw (lt-ltb g maxDefinitions h) (ap not (eqb-turn l 0 ∙ ap (eqb 0) (k 0 ∙ ap (λ (x : Form). levelAt x (replicate 0 0)) e)))
-
-  pub uneven-other : maxDefinitions ≤ g → false ≡ unevenForm words g
-  uneven-other h = rw (le-ltb g maxDefinitions h) refl
-
-module _ (words xs : List ℕ) (i end : ℕ) (w : Bool) (same : unevenAmong words (part xs i (end - i)) ≡ w) where
-  pub uneven-hit : (o : ℕ) (r : Bool) → i < end → o ≡ getD xs i 0 → r ≡ unevenForm words o → r ≡ true → true ≡ w
-  unfolding unevenAmong
-  uneven-hit o r h e f g = any-hit (unevenForm words) xs i end w same o r h e f g
-
-  pub uneven-next : (o : ℕ) (r : Bool) → i < end → o ≡ getD xs i 0 → r ≡ unevenForm words o → r ≡ false → unevenAmong words (part xs (i + 1) (end - (i + 1))) ≡ w
-  unfolding unevenAmong
-  uneven-next o r h e f g = any-next (unevenForm words) xs i end w same o r h e f g
-
-  pub uneven-end : end ≤ i → false ≡ w
-  unfolding unevenAmong
-  uneven-end h = any-end (unevenForm words) xs i end w same h
-
--- is_constant
-module _ (words facts contexts orders heads : List ℕ) (q count : ℕ) (b : Bool) (n : count ≡ getD heads (contextSlot q) 0)
-    (e : b ≡ variableAmong facts (part contexts (q * contextLength) (q * contextLength + count - q * contextLength))) where
-  codes-there : b ≡ variableAmong facts (contextCodes contexts heads q)
-  codes-there =
-      let z : q * contextLength + count - q * contextLength ≡ count = omega arith in
-      e ∙ ap (λ (k : ℕ). variableAmong facts (part contexts (q * contextLength) k)) (z ∙ n)
-
-  pub constant-not : b ≡ true → false ≡ constantCodes words facts (contextCodes contexts heads q) (orderOf orders heads q)
-  unfolding constantCodes
-  constant-not t = ap (λ (x : Bool). not x && not (unevenAmong words (orderOf orders heads q))) (sym (sym codes-there ∙ t))
-
-  pub constant-even : (size : ℕ) (r : Bool) → b ≡ false → size ≡ getD heads (orderSlot q) 0
-      → r ≡ unevenAmong words (part orders (q * maxDefinitions) (q * maxDefinitions + size - q * maxDefinitions))
-      → not r ≡ constantCodes words facts (contextCodes contexts heads q) (orderOf orders heads q)
-  unfolding constantCodes
-  constant-even size r t m f =
-      let z : q * maxDefinitions + size - q * maxDefinitions ≡ size = omega arith in
-      ap not (f ∙ ap (λ (k : ℕ). unevenAmong words (part orders (q * maxDefinitions) k)) (z ∙ m))
-      ∙ ap (λ (x : Bool). not x && not (unevenAmong words (orderOf orders heads q))) (sym (sym codes-there ∙ t))
+    subst (λ (n : ℕ). LevelsSeen a site codes b (part contexts (q * contextLength) n) r) (z ∙ e) t
 
 -- cause_in
-module _ (a : Around) (site : Site) (codes gs : List ℕ) (b : Bool) (e : Tested a site codes 12 false codes b) where
-  pub levels-12 : b ≡ true → LevelsJudged a site codes gs 12
-  levels-12 t =
-      record { bad = b; unlawful = false; tested-12 = e; tested-14 = λ z. never (sym t ∙ z); cause = ap (λ (x : Bool). cond x 12 0) (sym t) }
-
-  module _ (k u : Bool) (c : k ≡ constantCodes (a .words) (a .facts) codes gs) (f : Tested a site codes 14 k codes u) where
-    there : Tested a site codes 14 (constantCodes (a .words) (a .facts) codes gs) codes u
-    there = subst (λ (x : Bool). Tested a site codes 14 x codes u) c f
-
-    pub levels-14 : b ≡ false → u ≡ true → LevelsJudged a site codes gs 14
-    levels-14 t z =
-        record { bad = b; unlawful = u; tested-12 = e; tested-14 = λ _. there; cause = ap₂ (λ (x y : Bool). cond x 12 (cond y 14 0)) (sym t) (sym z) }
-
-    pub levels-0 : b ≡ false → u ≡ false → LevelsJudged a site codes gs 0
-    levels-0 t z =
-        record { bad = b; unlawful = u; tested-12 = e; tested-14 = λ _. there; cause = ap₂ (λ (x y : Bool). cond x 12 (cond y 14 0)) (sym t) (sym z) }
+pub levels-judged : (a : Around) (site : Site) (codes gs : List ℕ) (b : Bool) (seen : Seen) (r : ℕ) → b ≡ constantCodes (a .words) (a .facts) codes gs
+    → LevelsSeen a site codes b codes seen → r ≡ levelsCause b seen → LevelsJudged a site codes gs r
+levels-judged a site codes gs b seen r e l c = record { constant = b; seen = seen; constancy = e; levels = l; cause = c }
 
 -- substitutes_cause
 pub levels-own : (s refs numbers words names facts contexts heads : List ℕ) (site : Site) (codes gs : List ℕ) (r : ℕ) → numbers ≡ numbersFrom 0 maxDefinitions

@@ -1,4 +1,4 @@
--- What the tests of the codes say is what causes 12 and 14 ask.
+-- What the tests of the codes say is what causes 12, 14 and 21 ask.
 use borrow.Author.Tests.{eqb-true, le-leb, leb-true, lt-leb, lt-ltb, ltb-false, ltb-true}
 use mathlib.Core.Bool.{Bool, _&&_, _||_, cond, false, not, true}
 use mathlib.Core.List.{List, [], _∷_, map}
@@ -9,7 +9,7 @@ use lib.ListN.{getD, length}
 use native.Mathlib.Nat.{zero-add}
 use native.Mathlib.Omega.{arith}
 use Prim.Native.Nat.{_+_, _-_, _<_, _≤_, suc, zero, ℕ}
-use Rattle.context.proofs.Judging.{any-declared-law, any-each, kind-law, kindAnswered, kindOf}
+use Rattle.context.proofs.Judging.{any-declared-law, any-each, any-map, kind-law, kindAnswered, kindOf}
 use Rattle.context.specs.Holds.{Holds, moduleNo}
 use Rattle.context.specs.Lookup.{asCode, declaredNamed, isDeclared, operatorIn}
 use Rattle.context.specs.Store.{Store, codesOf, countAt, entryAt, fieldCode, firstAt, kindAt, orderOf, variableKind}
@@ -20,13 +20,11 @@ use Rattle.entering.specs.Written.{writtenAt}
 use Rattle.entering.specs.declared.substitutes.Site.{Site}
 use Rattle.entering.specs.declared.written.Writing.{Writing}
 use Rattle.entering.specs.declared.written.Writing.the-variants.{Written, Unwritten}
-use Rattle.forms.proofs.Combining.{level-pad}
-use Rattle.forms.specs.Forms.{Gives, levelAt}
-use Rattle.forms.specs.Tables.{formAt}
-use Rattle.forms.specs.declared.Form.{Form}
+use Rattle.forms.proofs.Reading.{level-pad}
+use Rattle.forms.specs.Forms.{formAt, Gives, levelAt}
 use Rattle.laws.proofs.Invariant.{Good, source-known}
 use Rattle.laws.proofs.Origins.{Origins}
-use Rattle.levels.proofs.Named.{numbers-at}
+use Rattle.levels.proofs.Numbered.{numbers-at}
 use Rattle.levels.specs.Tables.{sceneOf}
 use Rattle.limits.specs.Limits.{maxArity, maxDefinitions}
 use Rattle.resolve.proofs.Numbers.{Declares, declarationsOf, numbered-context}
@@ -34,7 +32,7 @@ use Rattle.resolve.specs.Meaning.{Numbered}
 use Rattle.rules.specs.Expression.{Expression}
 use Rattle.rules.specs.Field.{Field, Substitution}
 use Rattle.rules.specs.Instance.{declaredIn, isConstant, isKind, isVariable, kindIn, lawful, sameKind, source, substitute, substituteLevel, substituteOr, substitutionFor}
-use Rattle.rules.specs.Judge.{instanceUnknown, substituteNotLevelCorrect, unlawfulSubstitute}
+use Rattle.rules.specs.Judge.{instanceUnknown, mixedSubstitutes, substituteNotLevelCorrect, unlawfulSubstitute}
 use Rattle.rules.specs.State.{Module, State, cardLevel, declares, defines, here, instances, levelOf, operatorNamed, paramsOf, templatesOf, zeros}
 use Rattle.standing.specs.Standing.{itselves}
 use Rattle.text_levels.proofs.OwnWorld.{Shows}
@@ -42,14 +40,15 @@ use Rattle.texts.specs.Text.{Declarations, noDeclaration, refHead}
 use Rattle.theory.proofs.Lists.{never}
 use Rattle.theory.proofs.Substitution.{count-params}
 use Rattle.theory.specs.Expand.{aritiesOf, itself}
-use Rattle.theory.specs.Level.{verdict}
 use Rattle.theory.specs.Lists.{All, any, numbersFrom, orElse}
 use Rattle.theory.specs.Term.{Fits, Head, Kind, WellFormed, constant, declared, declaredLevel, kindArity, leaf, literal, variable}
 use Rattle.judge_instance.proofs.Implied.{implied-found}
 use Rattle.judge_instance.proofs.Levels.{highest-zero, implied-zero, itself-zero, written-zero, zeros-length, zeros-low}
 use Rattle.judge_instance.proofs.Linking.{itself-known, substitute-declared}
 use Rattle.instance_names.specs.Names.{Agrees}
-use Rattle.judge_instance.specs.Levels.{LevelFound, Tested, answers, constantCodes, fails, isVariableCode, ownKind, unevenAmong, unevenForm, variableAmong}
+use Rattle.judge_instance.specs.Constancy.{constantCodes, isVariableCode, unevenAmong, unevenForm, variableAmong}
+use Rattle.judge_instance.specs.Levels.{LevelFound, LevelsSeen, Tested, answers, isAt, isIncorrect, isMixed, isUnlawful, levelCauses, ownKind}
+use Rattle.judge_instance.specs.declared.lawful.Seen.{Seen}
 
 -- kinds
 
@@ -63,30 +62,33 @@ is-kind : (k : Kind) (o : Option Kind) → isKind k o ≡ true → o ≡ some k
 is-kind k none e = never (sym e)
 is-kind k (some d) e = ap some (kinds-same k d e)
 
-abbrev failsKind : ℕ → Bool → Kind → ℕ → Bool
-failsKind cause b k l = cond (eqb cause 12) (verdict l) (not (lawful b k l))
+-- what is asked of a level does not hold at 0, nor at the level of a name that stands for itself: 0 or, of a variable, 1
+record Fine (t : Kind → ℕ → Bool) : Type 0 where
+  nought : (k : Kind) → t k 0 ≡ false
+  state : t variable 1 ≡ false
 
--- level 0 is always lawful, and so is that of a name that stands for itself
+itself-fine : (t : Kind → ℕ → Bool) → Fine t → (k : Kind) (x : ℕ) → t k (declaredLevel k x (zeros (kindArity k))) ≡ false
+itself-fine t fine (constant n) x = ap (t (constant n)) (highest-zero n) ∙ fine .nought (constant n)
+itself-fine t fine variable x = fine .state
+
+incorrect-fine : Fine isIncorrect
+incorrect-fine = record { nought = λ k. refl; state = refl }
+
+-- level 0 is always lawful
 lawful-zero : (b : Bool) (k : Kind) → lawful b k 0 ≡ true
 lawful-zero true (constant zero) = refl
 lawful-zero false (constant zero) = refl
 lawful-zero b (constant (suc n)) = refl
 lawful-zero b variable = refl
 
-zero-fine : (cause : ℕ) (b : Bool) (k : Kind) → failsKind cause b k 0 ≡ false
-zero-fine cause b k = go (eqb cause 12)
-  where
-    go : (t : Bool) → cond t (verdict 0) (not (lawful b k 0)) ≡ false
-    go true = refl
-    go false = ap not (lawful-zero b k)
+unlawful-fine : (b : Bool) → Fine (isUnlawful b)
+unlawful-fine b = record { nought = λ k. ap not (lawful-zero b k); state = refl }
 
-itself-fine : (cause : ℕ) (b : Bool) (k : Kind) (x : ℕ) → failsKind cause b k (declaredLevel k x (zeros (kindArity k))) ≡ false
-itself-fine cause b (constant n) x = ap (failsKind cause b (constant n)) (highest-zero n) ∙ zero-fine cause b (constant n)
-itself-fine cause b variable x = go (eqb cause 12)
-  where
-    go : (t : Bool) → cond t (verdict 1) (not (lawful b variable 1)) ≡ false
-    go true = refl
-    go false = refl
+two-fine : Fine (isAt 2)
+two-fine = record { nought = λ k. refl; state = refl }
+
+three-fine : Fine (isAt 3)
+three-fine = record { nought = λ k. refl; state = refl }
 
 -- a constant's kind is its argument count
 arguments-kind : (kind : ℕ) → kindArity (kindOf kind) ≤ maxArity → argumentsOf kind ≡ kindArity (kindOf kind)
@@ -159,7 +161,7 @@ module _ (v : Store) (c : Counts) (s : State) (holds : Holds v c s) (fs : List F
   abbrev pub aroundHere : Around
   aroundHere = around file refs itselves words (v .names) (v .facts) (v .contexts) (v .heads)
 
-  stands-level : (d : Kind) (x o : ℕ) (f : Form) → getD names o 0 ≡ x → kindOf (kindAt facts o) ≡ d → kindArity d ≤ maxArity → kindIn M x ≡ some d
+  stands-level : (d : Kind) (x o : ℕ) (f : ℕ) → getD names o 0 ≡ x → kindOf (kindAt facts o) ≡ d → kindArity d ≤ maxArity → kindIn M x ≡ some d
       → (w : Writing) (y : Option Expression) → substitutionFor ss x ≡ y → Agrees file refs decls end s w y → StandsBy aroundHere siteHere o w f
       → WellFormed (aritiesOf (templatesOf s)) (p + kindArity d) 0 (substituteOr s p d x y)
       → levelAt f (zeros (p + kindArity d)) ≡ levelOf s (zeros (p + kindArity d)) (substituteOr s p d x y)
@@ -178,7 +180,7 @@ module _ (v : Store) (c : Counts) (s : State) (holds : Holds v c s) (fs : List F
       (subst (λ (y : ℕ). Gives f (impliedLevel itselves words (impliedRef names facts (v .contexts) (v .heads) (c .modules) y) 0 p (kindArity d))) en
       (subst (λ (n : ℕ). Gives f (impliedLevel itselves words (impliedRef names facts (v .contexts) (v .heads) (c .modules) (getD names o 0)) 0 p n)) args st)) (r .0)
       (subst (λ (g : Head). Fits (aritiesOf (templatesOf s)) (p + kindArity d) 0 g (kindArity d)) (head ∙ sym e)
-      (subst (Fits (aritiesOf (templatesOf s)) (p + kindArity d) 0 (orElse (leaf (literal 0)) (operatorNamed (here s) x))) (count-params p (kindArity d)) (w .0)))
+      (subst (Fits (aritiesOf (templatesOf s)) (p + kindArity d) 0 (orElse (leaf (literal 0)) (operatorNamed (here s) x))) (count-params p (kindArity d)) (w .0))) (omega arith)
       ∙ ap (λ (g : Head). levelOf s (zeros (p + kindArity d)) (itself p d g)) (e ∙ sym head)
 
   -- what the module instanced declares the name of a code as
@@ -211,24 +213,24 @@ module _ (v : Store) (c : Counts) (s : State) (holds : Holds v c s) (fs : List F
       ∙ itself-zero words decls s good forms p d x
 
   -- the test of a code says what the rules ask of its declaration
-  code-tested : (cause : ℕ) (b : Bool) (o l : ℕ) → (isDeclared facts o ≡ true → kindArity (kindOf (kindAt facts o)) ≤ maxArity) → LevelFound aroundHere siteHere codes o l
-      → isDeclared facts o && failsKind cause b (kindOf (kindAt facts o)) (levelOfCode o) ≡ fails cause b (kindAt facts o) l
-  unfolding fails ownKind answers
-  code-tested cause b o l low h =
-      go (isDeclared facts o) refl (isKind (kindOf (kindAt facts o)) (kindAnswered (operatorIn facts (asCode (declaredNamed names facts (getD names o 0) codes))))) refl
+  code-tested : (t : Kind → ℕ → Bool) → Fine t → (o l : ℕ) → (isDeclared facts o ≡ true → kindArity (kindOf (kindAt facts o)) ≤ maxArity)
+      → LevelFound aroundHere siteHere codes o l → isDeclared facts o && t (kindOf (kindAt facts o)) (levelOfCode o) ≡ t (kindOf (kindAt facts o)) l
+  unfolding ownKind answers
+  code-tested t fine o l low h =
+      go (isDeclared facts o) refl (isKind d (kindAnswered (operatorIn facts (asCode (declaredNamed names facts (getD names o 0) codes))))) refl
     where
+      d : Kind
+      d = kindOf (kindAt facts o)
+
+      none-there : l ≡ 0 → false ≡ t d l
+      none-there e = sym (ap (t d) e ∙ fine .nought d)
+
       go : (x : Bool) → isDeclared facts o ≡ x → (y : Bool)
-          → isKind (kindOf (kindAt facts o)) (kindAnswered (operatorIn facts (asCode (declaredNamed names facts (getD names o 0) codes)))) ≡ y
-          → x && failsKind cause b (kindOf (kindAt facts o)) (levelOfCode o) ≡ failsKind cause b (kindOf (kindAt facts o)) l
-      go false e y f =
-          sym (ap (failsKind cause b (kindOf (kindAt facts o))) (h .other (ap₂ _&&_ e f)) ∙ zero-fine cause b (kindOf (kindAt facts o)))
-      go true e true f =
-          ap (failsKind cause b (kindOf (kindAt facts o)))
-          (sym (level-own o l (low e) h (ap₂ _&&_ e f) (ap (isKind (kindOf (kindAt facts o))) (sym (kind-here o)) ∙ f)))
+          → isKind d (kindAnswered (operatorIn facts (asCode (declaredNamed names facts (getD names o 0) codes)))) ≡ y → x && t d (levelOfCode o) ≡ t d l
+      go false e y f = none-there (h .other (ap₂ _&&_ e f))
+      go true e true f = ap (t d) (sym (level-own o l (low e) h (ap₂ _&&_ e f) (ap (isKind d) (sym (kind-here o)) ∙ f)))
       go true e false f =
-          ap (failsKind cause b (kindOf (kindAt facts o))) (level-other o (ap (isKind (kindOf (kindAt facts o))) (sym (kind-here o)) ∙ f))
-          ∙ itself-fine cause b (kindOf (kindAt facts o)) (getD names o 0)
-          ∙ sym (ap (failsKind cause b (kindOf (kindAt facts o))) (h .other (ap₂ _&&_ e f)) ∙ zero-fine cause b (kindOf (kindAt facts o)))
+          ap (t d) (level-other o (ap (isKind d) (sym (kind-here o)) ∙ f)) ∙ itself-fine t fine d (getD names o 0) ∙ none-there (h .other (ap₂ _&&_ e f))
 
   -- every declaration of the module takes few arguments
   all-few : All (λ o. isDeclared facts o ≡ true → kindArity (kindOf (kindAt facts o)) ≤ maxArity) codes
@@ -244,26 +246,17 @@ module _ (v : Store) (c : Counts) (s : State) (holds : Holds v c s) (fs : List F
       to [] h = tt
       to (o ∷ cs) h = ((λ e. few-arguments names facts decls few o e (h .0)), to cs (h .1))
 
-  all-tested : (cause : ℕ) (b : Bool) (cs : List ℕ) → All (λ o. isDeclared facts o ≡ true → kindArity (kindOf (kindAt facts o)) ≤ maxArity) cs
-      → All (λ o. (l : ℕ) → LevelFound aroundHere siteHere codes o l
-      → isDeclared facts o && failsKind cause b (kindOf (kindAt facts o)) (levelOfCode o) ≡ fails cause b (kindAt facts o) l) cs
-  all-tested cause b [] h = tt
-  all-tested cause b (o ∷ cs) h = ((λ l w. code-tested cause b o l (h .0) w), all-tested cause b cs (h .1))
+  all-tested : (t : Kind → ℕ → Bool) → Fine t → (cs : List ℕ) → All (λ o. isDeclared facts o ≡ true → kindArity (kindOf (kindAt facts o)) ≤ maxArity) cs
+      → All (λ o. (l : ℕ) → LevelFound aroundHere siteHere codes o l → isDeclared facts o && t (kindOf (kindAt facts o)) (levelOfCode o) ≡ t (kindOf (kindAt facts o)) l) cs
+  all-tested t fine [] h = tt
+  all-tested t fine (o ∷ cs) h = ((λ l w. code-tested t fine o l (h .0) w), all-tested t fine cs (h .1))
 
-  any-tested : (cause : ℕ) (b r : Bool) → Tested aroundHere siteHere codes cause b codes r
-      → r ≡ any (λ (d : Kind × ℕ). failsKind cause b (d .0) (substituteLevel s p M ss d)) (declaredIn M)
-  any-tested cause b r t =
-      t .says (λ o. isDeclared facts o && failsKind cause b (kindOf (kindAt facts o)) (levelOfCode o)) (all-tested cause b codes all-few)
-      ∙ any-declared-law v c s holds (λ (d : Kind × ℕ). failsKind cause b (d .0) (substituteLevel s p M ss d)) q (omega arith)
-      ∙ ap (λ (N : Module). any (λ (d : Kind × ℕ). failsKind cause b (d .0) (substituteLevel s p M ss d)) (declaredIn N)) (sym found)
-
-  -- Cause 12, and cause 14 where it is known whether the module is constant.
-  pub cause-12 : (b r : Bool) → Tested aroundHere siteHere codes 12 b codes r → r ≡ substituteNotLevelCorrect s p (source s m) ss
-  cause-12 b r t = any-tested 12 b r t
-
-  pub cause-14 : (b r : Bool) → b ≡ isConstant s (source s m) → Tested aroundHere siteHere codes 14 b codes r → r ≡ unlawfulSubstitute s p (source s m) ss
-  cause-14 b r e t =
-      any-tested 14 b r t ∙ ap (λ (b : Bool). any (λ (d : Kind × ℕ). not (lawful b (d .0) (substituteLevel s p M ss d))) (declaredIn M)) e
+  any-tested : (t : Kind → ℕ → Bool) → Fine t → (r : Bool) → Tested aroundHere siteHere codes t codes r
+      → r ≡ any (λ (d : Kind × ℕ). t (d .0) (substituteLevel s p M ss d)) (declaredIn M)
+  any-tested t fine r h =
+      h .says (λ o. isDeclared facts o && t (kindOf (kindAt facts o)) (levelOfCode o)) (all-tested t fine codes all-few)
+      ∙ any-declared-law v c s holds (λ (d : Kind × ℕ). t (d .0) (substituteLevel s p M ss d)) q (omega arith)
+      ∙ ap (λ (N : Module). any (λ (d : Kind × ℕ). t (d .0) (substituteLevel s p M ss d)) (declaredIn N)) (sym found)
 
   -- A module is constant.
   variable-kind : (kind : ℕ) → eqb kind variableKind ≡ isVariable (kindOf kind)
@@ -293,9 +286,32 @@ module _ (v : Store) (c : Counts) (s : State) (holds : Holds v c s) (fs : List F
       let n : g < maxDefinitions = omega (arith, h .0, holds .definitions, holds .sized .definitions) in
       ap₂ _||_ (ap₂ (λ (b : Bool) (l : ℕ). b && not (eqb 0 l)) (lt-ltb g maxDefinitions n) (form-level g (h .0))) (all-even gs (h .1))
 
-  pub constant-law : constantCodes words facts codes (orderOf (v .orders) (v .heads) q) ≡ isConstant s (source s m)
+  constant-law : constantCodes words facts codes (orderOf (v .orders) (v .heads) q) ≡ isConstant s (source s m)
   unfolding constantCodes unevenAmong
   constant-law =
       ap₂ (λ (a b : Bool). not a && not b) no-variable
       (ap (any (unevenForm words)) (ap (λ (N : Module). N .definitions) (holds .shown q (omega arith) ∙ sym found))
       ∙ all-even (M .definitions) (source-known (length (s .definitions)) s m (good .ended) .1))
+
+  -- What was seen decides causes 12, 14 and 21.
+  pub levels-law : (b : Bool) → b ≡ constantCodes words facts codes (orderOf (v .orders) (v .heads) q) → (seen : Seen) → LevelsSeen aroundHere siteHere codes b codes seen
+      → levelCauses b seen
+      ≡ (12, substituteNotLevelCorrect s p (source s m) ss) ∷ (14, unlawfulSubstitute s p (source s m) ss) ∷ (21, mixedSubstitutes s p (source s m) ss) ∷ []
+  unfolding levelCauses isMixed
+  levels-law b e seen l =
+      ap₂ _∷_ (ap (λ (x : Bool). (12, x)) (any-tested isIncorrect incorrect-fine (seen .incorrect) (l .incorrect)))
+      (ap₂ _∷_ (ap (λ (x : Bool). (14, x)) unlawfully) (ap₂ _∷_ (ap (λ (x : Bool). (21, x)) (ap₂ _&&_ same (ap₂ _&&_ two three))) refl))
+    where
+      same : b ≡ isConstant s M
+      same = e ∙ constant-law
+
+      unlawfully : seen .unlawful ≡ unlawfulSubstitute s p M ss
+      unlawfully =
+          any-tested (isUnlawful b) (unlawful-fine b) (seen .unlawful) (l .unlawful)
+          ∙ ap (λ (b : Bool). any (λ (d : Kind × ℕ). not (lawful b (d .0) (substituteLevel s p M ss d))) (declaredIn M)) same
+
+      two : seen .transition ≡ any (eqb 2) (map (substituteLevel s p M ss) (declaredIn M))
+      two = any-tested (isAt 2) two-fine (seen .transition) (l .transition) ∙ sym (any-map (substituteLevel s p M ss) (eqb 2) (declaredIn M))
+
+      three : seen .temporal ≡ any (eqb 3) (map (substituteLevel s p M ss) (declaredIn M))
+      three = any-tested (isAt 3) three-fine (seen .temporal) (l .temporal) ∙ sym (any-map (substituteLevel s p M ss) (eqb 3) (declaredIn M))

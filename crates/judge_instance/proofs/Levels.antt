@@ -1,22 +1,20 @@
 -- The level that is found for a declaration is its substitute's by the rules.
 use borrow.Author.Tests.{ltb-false}
-use mathlib.Core.Bool.{Bool, cond, false, true}
+use mathlib.Core.Bool.{Bool, _&&_, cond, false, true}
 use mathlib.Core.List.{List, [], _∷_}
 use mathlib.Core.Path.{_∙_, _≡_, ap, ap₂, refl, sym}
-use lib.Dec.{ltb}
+use lib.Dec.{eqb, ltb}
 use lib.ListN.{getD, getD-replicate, length, length-replicate}
 use native.Mathlib.Nat.{zero-add}
 use native.Mathlib.Omega.{arith}
 use Prim.Native.Nat.{_+_, _-_, _<_, _≤_, min, suc, zero, ℕ}
-use Rattle.forms.specs.Forms.{Gives, levelAt, width}
-use Rattle.forms.specs.declared.Form.{Form}
+use Rattle.forms.specs.Forms.{Gives, levelAt, paramLevels, width}
 use Rattle.entering.specs.Implied.{impliedLevel}
-use Rattle.entering.specs.Own.{paramLevels}
 use Rattle.laws.proofs.Formats.{some-injective}
 use Rattle.laws.proofs.Invariant.{Good, arity-known}
 use Rattle.laws.proofs.Replacing.{known-below}
 use Rattle.laws.proofs.Sound.{length-templates}
-use Rattle.levels.specs.Tables.{sceneOf}
+use Rattle.levels.specs.Tables.{namesOf, sceneOf}
 use Rattle.levels.specs.Walk.{TextForm}
 use Rattle.limits.specs.Limits.{maxDefinitions, maxNesting}
 use Rattle.rules.specs.State.{State, cardLevel, levelOf, templatesOf, zeros}
@@ -24,10 +22,10 @@ use Rattle.standing.specs.Shown.{TextShown}
 use Rattle.standing.specs.Standing.{itselves}
 use Rattle.text_levels.proofs.OwnWorld.{Shows, Tokens, own-level, tokens-found}
 use Rattle.texts.specs.Text.{Declarations, named, noDeclaration, refHead}
-use Rattle.theory.specs.Level.{IsLevel, bindsIn, highest, incorrect, plain}
+use Rattle.theory.specs.Level.{IsLevel, bindsIn, highest, incorrect, plain, top}
 use Rattle.theory.proofs.Lists.{replicate-all}
 use Rattle.theory.specs.Expand.{aritiesOf, itself, paramsFrom}
-use Rattle.theory.specs.Lists.{All}
+use Rattle.theory.specs.Lists.{All, any}
 use Rattle.theory.specs.Term.{Fits, Kind, Reading, Term, WellFormed, byCards, declared, declaredLevel, defined, evals, kindArity}
 
 pub zeros-length : (n : ℕ) → length (zeros n) ≡ n
@@ -52,26 +50,33 @@ evals-zero M n i zero β u b h = refl
 evals-zero M n i (suc k) β u b h =
     ap₂ _∷_ (getD-replicate n i 0 (M .unknown) (omega arith)) (evals-zero M n (suc i) k β u (λ j. b (suc j)) (omega arith))
 
+top-zero : (n : ℕ) → top (zeros n) ≡ 0
+top-zero zero = refl
+top-zero (suc n) = let h = top-zero n in omega arith
+
+no-two : (n : ℕ) → any (eqb 2) (zeros n) ≡ false
+no-two zero = refl
+no-two (suc n) = no-two n
+
 pub highest-zero : (n : ℕ) → highest (zeros n) ≡ 0
-highest-zero zero = refl
-highest-zero (suc n) = let h = highest-zero n in omega arith
+highest-zero n = ap₂ (λ (b : Bool) (l : ℕ). cond (b && any (eqb 3) (zeros n)) incorrect l) (no-two n) (top-zero n)
 
 module _ (words : List ℕ) (decls : Declarations) (s : State) (good : Good s) (forms : Shows (sceneOf itselves words) decls s) where
   -- a substitute that is written
-  pub written-zero : (file refs : List ℕ) (end at n : ℕ) (u : Term) (f : Form) → TextShown file refs decls end at u → TextForm refs itselves words file 0 at f
+  pub written-zero : (file refs : List ℕ) (end at n : ℕ) (u : Term) (f : ℕ) → TextShown file refs decls end at u → TextForm (namesOf refs itselves words 0) file at f
       → WellFormed (aritiesOf (templatesOf s)) n 0 u → n ≤ width → levelAt f (zeros n) ≡ levelOf s (zeros n) u
   written-zero file refs end at n u f t form formed short =
       let tokens : Tokens (t .text) = rw (t .stands) at (tokens-found maxNesting file at) in
-      form .level (t .text) (t .next) (t .stands) (t .kept) (zeros n) (rw (zeros-length n) short)
+      form .level (t .text) (t .next) (t .stands) (zeros n) (rw (zeros-length n) short)
       ∙ own-level refs decls (sceneOf itselves words) s good forms n (zeros n) (zeros-length n ∙ sym (zero-add n)) (zeros-low n) (t .text) u tokens (t .below) (t .same) formed
 
   -- one that is implied: the operator r at the parameters after p
-  pub implied-zero : (r p : ℕ) (k : Kind) (f : Form) → Gives f (impliedLevel itselves words r 0 p (kindArity k)) → r < maxDefinitions + length decls
-      → Fits (aritiesOf (templatesOf s)) (p + kindArity k) 0 (refHead decls r) (kindArity k)
+  pub implied-zero : (r p : ℕ) (k : Kind) (f : ℕ) → Gives f (impliedLevel itselves words r 0 p (kindArity k)) → r < maxDefinitions + length decls
+      → Fits (aritiesOf (templatesOf s)) (p + kindArity k) 0 (refHead decls r) (kindArity k) → p + kindArity k ≤ width
       → levelAt f (zeros (p + kindArity k)) ≡ levelOf s (zeros (p + kindArity k)) (itself p k (refHead decls r))
   unfolding impliedLevel
-  implied-zero r p k f g below fits =
-      g .at (zeros (p + kindArity k))
+  implied-zero r p k f g below fits short =
+      g .at (zeros (p + kindArity k)) (rw (zeros-length (p + kindArity k)) short)
       ∙ ap (named (sceneOf itselves words) r) (ap (λ (i : ℕ). paramLevels i (kindArity k) (zeros (p + kindArity k))) (zero-add p) ∙ params-zero (p + kindArity k) p (kindArity k))
       ∙ go (ltb r maxDefinitions) refl fits
     where

@@ -9,6 +9,7 @@ pub mod Holding
 pub mod Levels
 pub mod LevelLaws
 pub mod LevelCases
+pub mod ConstancyCases
 pub mod Deciding
 pub mod Advances
 pub mod FieldJudged

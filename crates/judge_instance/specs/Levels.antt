@@ -1,24 +1,26 @@
--- Causes 12 and 14, code by code: the level, with parameters at 0, of what stands for each declaration of the module instanced.
-use mathlib.Core.Bool.{Bool, _&&_, cond, false, not, true}
-use mathlib.Core.List.{List}
+-- Causes 12, 14 and 21, code by code: the level, with parameters at 0, of what stands for each declaration of the module instanced.
+use mathlib.Core.Bool.{Bool, _&&_, _||_, false, not, true}
+use mathlib.Core.List.{List, [], _∷_}
 use mathlib.Core.Path.{_≡_}
 use Prim.Native.Nat.{ℕ}
-use lib.Dec.{eqb, ltb}
+use lib.Dec.{eqb}
 use lib.ListN.{getD}
 use Rattle.context.proofs.Judging.{kindAnswered, kindOf}
 use Rattle.context.specs.Lookup.{asCode, declaredNamed, isDeclared, operatorIn}
-use Rattle.context.specs.Store.{kindAt, variableKind}
+use Rattle.context.specs.Store.{kindAt}
 use Rattle.context.specs.declared.Operator.{Operator}
 use Rattle.entering.specs.Substitutes.{Around, Stands}
 use Rattle.entering.specs.declared.substitutes.Site.{Site}
 use Rattle.forms.specs.Forms.{levelAt}
-use Rattle.forms.specs.Tables.{formAt}
-use Rattle.forms.specs.declared.Form.{Form}
-use Rattle.limits.specs.Limits.{maxDefinitions}
+use Rattle.judge_plain.specs.Judges.{causeNumber}
 use Rattle.rules.specs.Instance.{isKind, lawful}
+use Rattle.rules.specs.Judge.{Cause, firstCause}
 use Rattle.rules.specs.State.{zeros}
 use Rattle.theory.specs.Level.{verdict}
 use Rattle.theory.specs.Lists.{All, any}
+use Rattle.theory.specs.Term.{Kind}
+use Rattle.judge_instance.specs.Constancy.{constantCodes}
+use Rattle.judge_instance.specs.declared.lawful.Seen.{Seen}
 
 -- a kind is the one that a name is declared as
 unfoldable pub answers : ℕ → Operator → Bool
@@ -30,7 +32,7 @@ ownKind names facts codes o = isDeclared facts o && answers (kindAt facts o) (op
 
 -- a level is that of what stands for o
 pub record Stood (a : Around) (site : Site) (o l : ℕ) : Type 0 where
-  pub form : Form
+  pub form : ℕ
   pub stands : Stands a site o form
   pub level : (n : ℕ) → l ≡ levelAt form (zeros n)
 
@@ -43,39 +45,51 @@ pub record LevelFound (a : Around) (site : Site) (codes : List ℕ) (o l : ℕ) 
 unfoldable pub isFree : Bool → ℕ → Bool
 isFree constant kind = eqb kind 0 && constant
 
--- a level for which the cause holds, of a declaration of that kind; the module instanced is constant or not
-unfoldable pub fails : ℕ → Bool → ℕ → ℕ → Bool
-fails cause constant kind l = cond (eqb cause 12) (verdict l) (not (lawful constant (kindOf kind) l))
+-- What is asked of a level that stands for a declaration of a kind: whether it is 4; whether it is not lawful, the module instanced being constant
+-- or not; whether it is n.
+abbrev pub isIncorrect : Kind → ℕ → Bool
+isIncorrect k l = verdict l
 
--- r says whether the cause holds for one of the codes cs: whatever test says what the levels say, r is that test of all
-pub record Tested (a : Around) (site : Site) (codes : List ℕ) (cause : ℕ) (constant : Bool) (cs : List ℕ) (r : Bool) : Type 0 where
-  pub says : (t : ℕ → Bool) → All (λ o. (l : ℕ) → LevelFound a site codes o l → t o ≡ fails cause constant (kindAt (a .facts) o) l) cs → r ≡ any t cs
+abbrev pub isUnlawful : Bool → Kind → ℕ → Bool
+isUnlawful constant k l = not (lawful constant k l)
 
--- a variable's code; a definition whose form is not of level 0
-abbrev pub isVariableCode : List ℕ → ℕ → Bool
-isVariableCode facts o = isDeclared facts o && eqb (kindAt facts o) variableKind
+abbrev pub isAt : ℕ → Kind → ℕ → Bool
+isAt n k l = eqb n l
 
-unfoldable pub variableAmong : List ℕ → List ℕ → Bool
-variableAmong facts cs = any (isVariableCode facts) cs
+-- r says whether what is asked, p, holds for one of the codes cs: whatever test says what the levels say, r is that test of all
+pub record Tested (a : Around) (site : Site) (codes : List ℕ) (p : Kind → ℕ → Bool) (cs : List ℕ) (r : Bool) : Type 0 where
+  pub says : (t : ℕ → Bool) → All (λ o. (l : ℕ) → LevelFound a site codes o l → t o ≡ p (kindOf (kindAt (a .facts) o)) l) cs → r ≡ any t cs
 
--- the level with parameters at 0 of the form of definition g is not 0
-abbrev pub unevenForm : List ℕ → ℕ → Bool
-unevenForm words g = ltb g maxDefinitions && not (eqb 0 (levelAt (formAt words g) (zeros 0)))
+-- what is seen of the codes cs
+pub record LevelsSeen (a : Around) (site : Site) (codes : List ℕ) (constant : Bool) (cs : List ℕ) (r : Seen) : Type 0 where
+  pub incorrect : Tested a site codes isIncorrect cs (r .incorrect)
+  pub unlawful : Tested a site codes (isUnlawful constant) cs (r .unlawful)
+  pub transition : Tested a site codes (isAt 2) cs (r .transition)
+  pub temporal : Tested a site codes (isAt 3) cs (r .temporal)
 
-unfoldable pub unevenAmong : List ℕ → List ℕ → Bool
-unevenAmong words gs = any (unevenForm words) gs
+-- what was seen, with one level more
+unfoldable pub seenWith : Bool → Seen → Kind → ℕ → Seen
+seenWith constant seen k l =
+    record {
+      incorrect = seen .incorrect || isIncorrect k l;
+      unlawful = seen .unlawful || isUnlawful constant k l;
+      transition = seen .transition || isAt 2 k l;
+      temporal = seen .temporal || isAt 3 k l;
+    }
 
--- a module without a variable, all of whose definitions have level 0
-unfoldable pub constantCodes : List ℕ → List ℕ → List ℕ → List ℕ → Bool
-constantCodes words facts cs gs = not (variableAmong facts cs) && not (unevenAmong words gs)
+unfoldable pub isMixed : Bool → Seen → Bool
+isMixed constant seen = constant && (seen .transition && seen .temporal)
 
--- the first of the causes 12 and 14 that holds
-abbrev pub levelsCause : Bool → Bool → ℕ
-levelsCause bad unlawful = cond bad 12 (cond unlawful 14 0)
+-- the causes of levels, in the order of the rules, and the first that holds
+unfoldable pub levelCauses : Bool → Seen → List Cause
+levelCauses constant seen = (12, seen .incorrect) ∷ (14, seen .unlawful) ∷ (21, isMixed constant seen) ∷ []
+
+unfoldable pub levelsCause : Bool → Seen → ℕ
+levelsCause constant seen = causeNumber (firstCause (levelCauses constant seen))
 
 pub record LevelsJudged (a : Around) (site : Site) (codes gs : List ℕ) (r : ℕ) : Type 0 where
-  pub bad : Bool
-  pub unlawful : Bool
-  pub tested-12 : Tested a site codes 12 false codes bad
-  pub tested-14 : bad ≡ false → Tested a site codes 14 (constantCodes (a .words) (a .facts) codes gs) codes unlawful
-  pub cause : r ≡ levelsCause bad unlawful
+  pub constant : Bool
+  pub seen : Seen
+  pub constancy : constant ≡ constantCodes (a .words) (a .facts) codes gs
+  pub levels : LevelsSeen a site codes constant codes seen
+  pub cause : r ≡ levelsCause constant seen

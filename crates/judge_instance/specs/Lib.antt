@@ -1,3 +1,4 @@
 pub mod Cleared
+pub mod Constancy
 pub mod Levels
 pub mod Brought

@@ -6,9 +6,11 @@ ghost use Rattle.limits.specs.Limits.{maxDeclarations, maxDefinitions};
 ghost use Rattle.chains.specs.Results.{BroughtForms};
 ghost use Rattle.context.specs.Store.{afterDefinitions, orderSlot, store};
 ghost use Rattle.instancing.specs.Bringing.{instancing};
+ghost use Rattle.judge_plain.specs.Causes.{answer};
+ghost use Rattle.judge_plain.specs.declared.Phase.the-variants.{Inside};
 ghost use Rattle.levels.specs.Tables.{tableWords};
 ghost use Rattle.standing.specs.Shown.{ownerShift};
-ghost use Rattle.judge_instance.specs.Brought.{Bringable, FieldBrought, FieldLawful, answerBrought};
+ghost use Rattle.judge_instance.specs.Brought.{Bringable, FieldBrought, FieldLawful, broughtCause};
 use crate::lawful::substitutes_cause;
 use chains::brought::brought_forms;
 use context::Counts;
@@ -19,15 +21,26 @@ use judge_plain::Judged;
 use judge_plain::Phase;
 use judge_plain::refused;
 
-// The answer: a definition brought has level 4; or the module instanced has a named instance; or the counts are those after the field.
-fn brought_answer(bad: bool, named: bool, phase: Phase, c: Counts, after: Counts) -> Judged
-    ensures { λ r. ⌜ r ≡ answerBrought bad named phase c after ⌝ }
+// The first of the causes 15 and 16 that holds: a definition brought has level 4; the module instanced has a named instance.
+fn brought_cause(bad: bool, named: bool) -> u8
+    ensures { λ r. ⌜ r ≡ broughtCause bad named ⌝ }
 {
     if bad {
-        return refused(15, phase, c);
+        return 15;
     }
     if named {
-        return refused(16, phase, c);
+        return 16;
+    }
+    0
+}
+
+// The answer: that cause, or the counts after the field.
+fn brought_answer(bad: bool, named: bool, phase: Phase, c: Counts, after: Counts) -> Judged
+    ensures { λ r. ⌜ r ≡ answer (broughtCause bad named) phase c Inside after ⌝ }
+{
+    let cause = brought_cause(bad, named);
+    if cause != 0 {
+        return refused(cause, phase, c);
     }
     Judged {
         cause: 0,

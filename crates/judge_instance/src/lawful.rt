@@ -1,4 +1,5 @@
-// Causes 12 and 14: the levels, with parameters at 0, of what stands for the declarations of the module instanced.
+// Causes 12, 14 and 21: the levels, with parameters at 0, of what stands for the declarations of the module instanced, by one walk over them.
+ghost use mathlib.Core.Bool.{_&&_, _||_};
 ghost use mathlib.Core.Path.{_≡_};
 ghost use Prim.Native.Nat.{_+_, _-_, _*_, _≤_, _<_};
 ghost use lib.ListN.{length};
@@ -10,7 +11,8 @@ ghost use Rattle.entering.specs.Substitutes.{Fitting, around};
 ghost use Rattle.levels.specs.Tables.{tableWords};
 ghost use Rattle.rules.specs.Instance.{lawful};
 ghost use Rattle.standing.specs.Standing.{itselves};
-ghost use Rattle.judge_instance.specs.Levels.{LevelFound, LevelsJudged, Tested, answers, constantCodes, fails, isFree, isVariableCode, ownKind, unevenAmong, unevenForm, variableAmong};
+ghost use Rattle.judge_instance.specs.Levels.{LevelFound, LevelsJudged, LevelsSeen, answers, isFree, isMixed, levelsCause, ownKind, seenWith};
+use crate::constancy::is_constant;
 use context::Kinds;
 use context::Operator;
 use context::lists::number_at;
@@ -19,9 +21,16 @@ use context::lookup::is_declared;
 use entering::substitutes::Site;
 use entering::substitutes::substitute_form;
 use forms::card::level_at_zero;
-use forms::table::load;
 use levels::names::identity;
 use limits::Limits;
+
+// What was seen among the levels of substitutes: a 4, one that is not lawful, a 2, a 3.
+pub struct Seen {
+    pub incorrect: bool,
+    pub unlawful: bool,
+    pub transition: bool,
+    pub temporal: bool,
+}
 
 // Whether a declaration takes every level but 4: a constant, in a constant module.
 fn is_free(constant: bool, kind: u16) -> bool
@@ -46,14 +55,64 @@ fn is_lawful(constant: bool, kind: u16, level: u8) -> bool
     level == 0
 }
 
-// Whether cause 12, or else cause 14, holds of this level.
-fn is_refused(cause: u8, constant: bool, kind: u16, level: u8) -> bool
-    ensures { λ r. ⌜ r ≡ fails cause constant kind level ⌝ }
+// Whether one of two tests holds.
+fn either(a: bool, b: bool) -> bool
+    ensures { λ r. ⌜ r ≡ (a || b) ⌝ }
 {
-    if cause == 12 {
-        return level == 4;
+    if a {
+        return true;
     }
-    !is_lawful(constant, kind, level)
+    b
+}
+
+// Whether both of two tests hold.
+fn both(a: bool, b: bool) -> bool
+    ensures { λ r. ⌜ r ≡ (a && b) ⌝ }
+{
+    if a {
+        return b;
+    }
+    false
+}
+
+// What was seen with one level more, of what stands for a declaration of this kind.
+fn with_level(seen: Seen, constant: bool, kind: u16, level: u8) -> Seen
+    ensures { λ r. ⌜ r ≡ seenWith constant seen (kindOf kind) level ⌝ }
+{
+    let lawful = is_lawful(constant, kind, level);
+    Seen {
+        incorrect: either(seen.incorrect, level == 4),
+        unlawful: either(seen.unlawful, !lawful),
+        transition: either(seen.transition, level == 2),
+        temporal: either(seen.temporal, level == 3),
+    }
+}
+
+// Whether a 2 and a 3 were seen, of a constant module.
+fn is_mixed(constant: bool, seen: Seen) -> bool
+    ensures { λ r. ⌜ r ≡ isMixed constant seen ⌝ }
+{
+    if constant {
+        return both(seen.transition, seen.temporal);
+    }
+    false
+}
+
+// The first of the causes 12, 14 and 21 that holds by what was seen.
+fn cause_seen(constant: bool, seen: Seen) -> u8
+    ensures { λ r. ⌜ r ≡ levelsCause constant seen ⌝ }
+{
+    let mixed = is_mixed(constant, seen);
+    if seen.incorrect {
+        return 12;
+    }
+    if seen.unlawful {
+        return 14;
+    }
+    if mixed {
+        return 21;
+    }
+    0
 }
 
 // Whether a name is declared as this kind.
@@ -120,8 +179,8 @@ fn level_found(
     0
 }
 
-// Whether the cause holds of a code from place from to place end.
-fn refused_among(
+// What is seen of the codes from place from to place end.
+fn seen_among(
     s: &[u8],
     refs: &[u16],
     numbers: &[u16],
@@ -132,14 +191,19 @@ fn refused_among(
     heads: &[u16],
     site: Site,
     q: usize,
-    cause: u8,
     constant: bool,
     from: usize,
     end: usize,
-) -> bool
+) -> Seen
     requires { ⌜ (length (now words) ≡ tableWords) × Fitting site × (q ≤ maxModules) ⌝ }
-    ensures { λ r. ⌜ Tested (around (now (s .entry)) (now (refs .entry)) (now (numbers .entry)) (now (words .entry)) (now (names .entry)) (now (facts .entry)) (now (contexts .entry)) (now (heads .entry))) site (contextCodes (now (contexts .entry)) (now (heads .entry)) q) cause constant (part (now (contexts .entry)) from (end - from)) r ⌝ }
+    ensures { λ r. ⌜ LevelsSeen (around (now (s .entry)) (now (refs .entry)) (now (numbers .entry)) (now (words .entry)) (now (names .entry)) (now (facts .entry)) (now (contexts .entry)) (now (heads .entry))) site (contextCodes (now (contexts .entry)) (now (heads .entry)) q) constant (part (now (contexts .entry)) from (end - from)) r ⌝ }
 {
+    let mut seen = Seen {
+        incorrect: false,
+        unlawful: false,
+        transition: false,
+        temporal: false,
+    };
     let mut i = from;
     while i < end {
         let o = number_at(contexts, i);
@@ -157,16 +221,14 @@ fn refused_among(
             o,
         );
         let kind = number_at(facts, Limits::COLUMNS * (o as usize));
-        if is_refused(cause, constant, kind, level) {
-            return true;
-        }
+        seen = with_level(seen, constant, kind, level);
         i += 1;
     }
-    false
+    seen
 }
 
-// Whether the cause holds of a declaration of module q.
-fn has_refused(
+// What is seen of the declarations of module q.
+fn levels_seen(
     s: &[u8],
     refs: &[u16],
     numbers: &[u16],
@@ -177,15 +239,14 @@ fn has_refused(
     heads: &[u16],
     site: Site,
     q: usize,
-    cause: u8,
     constant: bool,
-) -> bool
+) -> Seen
     requires { ⌜ (length (now words) ≡ tableWords) × Fitting site × (q ≤ maxModules) ⌝ }
-    ensures { λ r. ⌜ Tested (around (now (s .entry)) (now (refs .entry)) (now (numbers .entry)) (now (words .entry)) (now (names .entry)) (now (facts .entry)) (now (contexts .entry)) (now (heads .entry))) site (contextCodes (now (contexts .entry)) (now (heads .entry)) q) cause constant (contextCodes (now (contexts .entry)) (now (heads .entry)) q) r ⌝ }
+    ensures { λ r. ⌜ LevelsSeen (around (now (s .entry)) (now (refs .entry)) (now (numbers .entry)) (now (words .entry)) (now (names .entry)) (now (facts .entry)) (now (contexts .entry)) (now (heads .entry))) site (contextCodes (now (contexts .entry)) (now (heads .entry)) q) constant (contextCodes (now (contexts .entry)) (now (heads .entry)) q) r ⌝ }
 {
     let from = q * Limits::CONTEXT;
     let count = number_at(heads, Limits::PLACES + q) as usize;
-    refused_among(
+    seen_among(
         s,
         refs,
         numbers,
@@ -196,87 +257,13 @@ fn has_refused(
         heads,
         site,
         q,
-        cause,
         constant,
         from,
         from + count,
     )
 }
 
-// Whether a code is a variable's.
-fn is_variable(facts: &[u16], o: u16) -> bool
-    ensures { λ r. ⌜ r ≡ isVariableCode (now (facts .entry)) o ⌝ }
-{
-    if is_declared(facts, o) {
-        return number_at(facts, Limits::COLUMNS * (o as usize)) == Kinds::VARIABLE;
-    }
-    false
-}
-
-// Whether a code from place from to place end is a variable's.
-fn variable_among(facts: &[u16], contexts: &[u16], from: usize, end: usize) -> bool
-    ensures { λ r. ⌜ r ≡ variableAmong (now (facts .entry)) (part (now (contexts .entry)) from (end - from)) ⌝ }
-{
-    let mut i = from;
-    while i < end {
-        if is_variable(facts, number_at(contexts, i)) {
-            return true;
-        }
-        i += 1;
-    }
-    false
-}
-
-// Whether definition g has another level than 0.
-fn is_uneven(words: &[u64], g: u16) -> bool
-    requires { ⌜ length (now words) ≡ tableWords ⌝ }
-    ensures { λ r. ⌜ r ≡ unevenForm (now (words .entry)) g ⌝ }
-{
-    let d = g as usize;
-    if d < Limits::DEFINITIONS {
-        return level_at_zero(load(words, d)) != 0;
-    }
-    false
-}
-
-// Whether a definition from place from to place end of the lists has another level than 0.
-fn uneven_among(words: &[u64], orders: &[u16], from: usize, end: usize) -> bool
-    requires { ⌜ length (now words) ≡ tableWords ⌝ }
-    ensures { λ r. ⌜ r ≡ unevenAmong (now (words .entry)) (part (now (orders .entry)) from (end - from)) ⌝ }
-{
-    let mut i = from;
-    while i < end {
-        if is_uneven(words, number_at(orders, i)) {
-            return true;
-        }
-        i += 1;
-    }
-    false
-}
-
-// Whether module q is constant.
-fn is_constant(
-    words: &[u64],
-    facts: &[u16],
-    contexts: &[u16],
-    orders: &[u16],
-    heads: &[u16],
-    q: usize,
-) -> bool
-    requires { ⌜ (length (now words) ≡ tableWords) × (q ≤ maxModules) ⌝ }
-    ensures { λ r. ⌜ r ≡ constantCodes (now (words .entry)) (now (facts .entry)) (contextCodes (now (contexts .entry)) (now (heads .entry)) q) (orderOf (now (orders .entry)) (now (heads .entry)) q) ⌝ }
-{
-    let from = q * Limits::CONTEXT;
-    let count = number_at(heads, Limits::PLACES + q) as usize;
-    if variable_among(facts, contexts, from, from + count) {
-        return false;
-    }
-    let first = q * Limits::DEFINITIONS;
-    let size = number_at(heads, 2 * Limits::PLACES + q) as usize;
-    !uneven_among(words, orders, first, first + size)
-}
-
-// The first of the causes 12 and 14 that holds, in the world of the tables.
+// The first of the causes 12, 14 and 21 that holds, in the world of the tables.
 fn cause_in(
     s: &[u8],
     refs: &[u16],
@@ -293,24 +280,8 @@ fn cause_in(
     requires { ⌜ (length (now words) ≡ tableWords) × Fitting site × (q ≤ maxModules) ⌝ }
     ensures { λ r. ⌜ LevelsJudged (around (now (s .entry)) (now (refs .entry)) (now (numbers .entry)) (now (words .entry)) (now (names .entry)) (now (facts .entry)) (now (contexts .entry)) (now (heads .entry))) site (contextCodes (now (contexts .entry)) (now (heads .entry)) q) (orderOf (now (orders .entry)) (now (heads .entry)) q) r ⌝ }
 {
-    if has_refused(
-        s,
-        refs,
-        numbers,
-        words,
-        names,
-        facts,
-        contexts,
-        heads,
-        site,
-        q,
-        12,
-        false,
-    ) {
-        return 12;
-    }
     let constant = is_constant(words, facts, contexts, orders, heads, q);
-    if has_refused(
+    let seen = levels_seen(
         s,
         refs,
         numbers,
@@ -321,15 +292,12 @@ fn cause_in(
         heads,
         site,
         q,
-        14,
         constant,
-    ) {
-        return 14;
-    }
-    0
+    );
+    cause_seen(constant, seen)
 }
 
-// The first of the causes 12 and 14 that holds: no instance is around the field.
+// The first of the causes 12, 14 and 21 that holds: no instance is around the field.
 pub fn substitutes_cause(
     s: &[u8],
     refs: &[u16],

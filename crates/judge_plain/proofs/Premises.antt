@@ -2,7 +2,8 @@
 use mathlib.Core.List.{List, [], _∷_}
 use mathlib.Core.Option.{Option, none, some}
 use mathlib.Core.Path.{_∙_, _≡_, ap, refl, subst, sym}
-use mathlib.Core.Bool.{Bool, cond, false, true}
+use mathlib.Core.Bool.{Bool, _&&_, cond, false, true}
+use lib.Dec.{T, ltb, ltb→lt}
 use lib.ListN.{List·getD-append, length}
 use native.Mathlib.Omega.{arith}
 use Prim.Native.Nat.{_<_, ℕ}
@@ -19,7 +20,7 @@ use Rattle.rules.specs.Field.{Field, assume, begin-module, declare-constant, de
 use Rattle.rules.specs.Judge.{Cause, causes, firstCause, judge}
 use Rattle.rules.specs.State.{Module, State, begun, here, inside, noModule, outside, start}
 use Rattle.rules.specs.State as rules
-use Rattle.theory.proofs.Lists.{at-all}
+use Rattle.theory.proofs.Lists.{and-parts, at-all}
 use Rattle.theory.specs.Lists.{All}
 
 -- outside a module, and directly after a module field, the open module is empty
@@ -61,25 +62,29 @@ ready names facts contexts orders heads p c s holds phase good fresh =
     (λ (e : p ≡ Begun). let q : s .phase ≡ begun = sym phase ∙ ap phaseOf e in subst (λ x. EmptyIn x (s .current)) q fresh)
 
 -- an answer of 0 is no cause: every cause has a number above 0
-above : (cs : List Cause) → All (λ c. 0 < c .0) cs → causeNumber (firstCause cs) ≡ 0 → firstCause cs ≡ none
+abbrev numbers : List Cause → Bool
+numbers [] = true
+numbers (c ∷ cs) = ltb 0 (c .0) && numbers cs
+
+above : (cs : List Cause) → T (numbers cs) → causeNumber (firstCause cs) ≡ 0 → firstCause cs ≡ none
 above [] h e = refl
-above (c ∷ cs) h e = go (c .1) (λ z. above cs (h .1) z) e
+above (c ∷ cs) h e = go (c .1) (λ z. above cs (and-parts (ltb 0 (c .0)) (numbers cs) h .1) z) e
   where
     go : (b : Bool) → (causeNumber (firstCause cs) ≡ 0 → firstCause cs ≡ none) → causeNumber (cond b (some (c .0)) (firstCause cs)) ≡ 0
         → cond b (some (c .0)) (firstCause cs) ≡ none
-    go true k z = absurd (omega (arith, h .0))
+    go true k z = absurd (omega (arith, ltb→lt 0 (c .0) (and-parts (ltb 0 (c .0)) (numbers cs) h .0)))
     go false k z = k z
 
-numbered : (s : State) (f : Field) → All (λ c. 0 < c .0) (causes s f)
-numbered s (begin-module n) = (omega arith, (omega arith, (omega arith, tt)))
-numbered s (extends m ms) = (omega arith, (omega arith, (omega arith, tt)))
-numbered s (declare-constant n k) = (omega arith, (omega arith, (omega arith, tt)))
-numbered s (declare-variable n) = (omega arith, (omega arith, (omega arith, tt)))
-numbered s (definition n p e) = (omega arith, (omega arith, (omega arith, (omega arith, (omega arith, (omega arith, tt))))))
-numbered s (instance n p m ss) = (omega arith, (omega arith, (omega arith, (omega arith, (omega arith, (omega arith, (omega arith, (omega arith, (omega arith, (omega arith, (omega arith, tt)))))))))))
-numbered s end-module = (omega arith, tt)
-numbered s (assume e) = (omega arith, (omega arith, (omega arith, (omega arith, (omega arith, (omega arith, tt))))))
-numbered s (theorem e) = (omega arith, (omega arith, (omega arith, (omega arith, (omega arith, tt)))))
+numbered : (s : State) (f : Field) → T (numbers (causes s f))
+numbered s (begin-module n) = tt
+numbered s (extends m ms) = tt
+numbered s (declare-constant n k) = tt
+numbered s (declare-variable n) = tt
+numbered s (definition n p e) = tt
+numbered s (instance n p m ss) = tt
+numbered s end-module = tt
+numbered s (assume e) = tt
+numbered s (theorem e) = tt
 
 pub no-cause-left : (s : State) (f : Field) → causeNumber (judge s f) ≡ 0 → judge s f ≡ none
 no-cause-left s f e = above (causes s f) (numbered s f) e

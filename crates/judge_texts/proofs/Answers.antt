@@ -6,15 +6,14 @@ use mathlib.Core.Path.{_∙_, _≡_, ap, refl, subst, sym}
 use Prim.Native.Nat.{ℕ, _<_, _≤_}
 use native.Mathlib.Omega.{arith}
 use lib.Dec.{leb, ltb}
-use lib.ListN.{getD}
+use lib.ListN.{getD, length}
 use Rattle.limits.specs.Limits.{maxArity, maxDefinitions}
 use Rattle.limits.specs.Sizes.{contextLength}
 use Rattle.tokens.specs.Limit.{limitAt}
 use Rattle.tokens.specs.declared.Limit.{Limit}
 use Rattle.tokens.specs.declared.Limit.the-variants.{Kept, Passed}
-use Rattle.forms.specs.Forms.{Fit}
-use Rattle.forms.specs.declared.Form.{Form}
-use Rattle.forms.specs.Tables.{formAt, stored as storedForm}
+use Rattle.forms.specs.Forms.{formAt, stored as storedForm}
+use Rattle.forms.proofs.Tables.{load-same}
 use Rattle.context.proofs.Repeats.{code-none, code-some}
 use Rattle.context.specs.Lookup.{asCode, codeNamed}
 use Rattle.context.specs.Store.{Store, afterDefinitions, afterField, codesOf, contextCodes, contextSlot, orderSlot}
@@ -25,6 +24,7 @@ use Rattle.judge_plain.specs.Causes.{answer, early, judged, refusal}
 use Rattle.judge_plain.specs.declared.Judged.{Judged}
 use Rattle.judge_plain.specs.declared.Phase.{Phase}
 use Rattle.judge_plain.specs.declared.Phase.the-variants.{Inside}
+use Rattle.levels.specs.Tables.{namesOf, tableWords}
 use Rattle.levels.specs.Walk.{TextForm}
 use Rattle.standing.specs.Standing.{Roomy, itselves}
 use Rattle.judge_texts.specs.Texts.{Defining, Finished, Formula, Stored, Texted, added, definitionCause, formulaCause, halted, isPassed, lastCause, textCause, walked, weighed, wrong}
@@ -165,12 +165,13 @@ module _ (v v′ : Store) (words words′ : List ℕ) (p : Phase) (c : Counts) (
   finish-wrong h e = wrong (λ z. h (first ∙ z)) (e ∙ ap (λ (w : ℕ). refusal w p c) first)
 
   pub finish-added : cause ≡ 0 → r ≡ judged 0 Inside (afterDefinitions 1 c) → Stored v v′ c name params at len → words′ ≡ storedForm words (c .definitions) (t .form)
-      → formAt words′ (c .definitions) ≡ t .form → Finished v v′ words words′ p c name params at len t r
-  finish-added z e s w f = added (sym first ∙ z) e s w f
+      → length words ≡ tableWords → c .definitions < maxDefinitions → Finished v v′ words words′ p c name params at len t r
+  finish-added z e s w l h =
+      added (sym first ∙ z) e s w (ap (λ (k : List ℕ). formAt k (c .definitions)) w ∙ load-same words (c .definitions) (t .form) (omega arith))
 
 -- a table of numbers that is the identity
-pub own-numbers : (refs numbers words s : List ℕ) (P at : ℕ) (f : Form) → numbers ≡ itselves → TextForm refs numbers words s P at f → TextForm refs itselves words s P at f
-own-numbers refs numbers words s P at f e h = subst (λ (x : List ℕ). TextForm refs x words s P at f) e h
+pub own-numbers : (refs numbers words s : List ℕ) (P at : ℕ) (f : ℕ) → numbers ≡ itselves → TextForm (namesOf refs numbers words P) s at f → TextForm (namesOf refs itselves words P) s at f
+own-numbers refs numbers words s P at f e h = subst (λ (x : List ℕ). TextForm (namesOf refs x words P) s at f) e h
 
 -- a definition of which only the text was left
 pub define-walked : (v v′ : Store) (file words words′ refs refs′ : List ℕ) (p : Phase) (c : Counts) (name params at len : ℕ) (r : Judged)
@@ -178,10 +179,6 @@ pub define-walked : (v v′ : Store) (file words words′ refs refs′ : List �
     → Texted (v .names) (v .facts) (codesOf v (c .modules)) file words params at refs refs′ t → Finished v v′ words words′ p c name params at len t r
     → Defining v v′ file words words′ refs refs′ p c name params at len r
 define-walked v v′ file words words′ refs refs′ p c name params at len r h t x f = walked h t x f
-
--- its form fits the table
-pub form-fits : (names facts cs file words : List ℕ) (params at : ℕ) (refs refs′ : List ℕ) (t : Text) → Texted names facts cs file words params at refs refs′ t → Fit (t .form)
-form-fits names facts cs file words params at refs refs′ t x = x .form .fit
 
 -- no cause was found
 pub by-cause : (cause w : ℕ) → cause ≡ w → cause ≡ 0 → w ≡ 0

@@ -24,7 +24,7 @@ use Rattle.fields.specs.Substitution.{part}
 use Rattle.fields.specs.declared.Parts.the-variants.{Definition}
 use Rattle.tokens.specs.Limit.{limitAt}
 use Rattle.texts.specs.Text.{Declarations}
-use Rattle.forms.specs.Tables.{formAt, stored as storedForm}
+use Rattle.forms.specs.Forms.{formAt, stored as storedForm}
 use Rattle.context.proofs.Adds.{adds-definition, hold-store}
 use Rattle.context.proofs.Judging.{here-law}
 use Rattle.context.specs.Holds.{Holds, Linked}

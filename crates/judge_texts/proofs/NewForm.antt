@@ -3,23 +3,21 @@ use borrow.Author.Tests.{ltb-false, ltb-true}
 use mathlib.Core.Bool.{Bool, false, true}
 use mathlib.Core.List.{List, [], _++_, _∷_, append-nil, map}
 use mathlib.Core.Path.{_∙_, _≡_, ap, refl, subst, sym}
-use Prim.Native.Nat.{ℕ, _+_, _*_, _≤_, _<_}
+use Prim.Native.Nat.{ℕ, _+_, _≤_, _<_}
 use native.Mathlib.Nat.{zero-add}
 use native.Mathlib.Omega.{arith}
 use lib.Dec.{ltb}
 use lib.ListN.{getD, length, length-append, length-map}
-use lib.Seq.{getD-at, length-paste}
+use lib.Seq.{getD-at}
 use Rattle.limits.specs.Limits.{maxDefinitions}
 use Rattle.theory.specs.Expand.{Definition, Template, cards, own, summariesFrom, summaryOf, templateOf, templatesFrom}
 use Rattle.theory.specs.Lists.{All}
 use Rattle.theory.specs.Term.{Term, byCards, level, longWay}
 use Rattle.theory.specs.Level.{IsLevel}
 use Rattle.rules.specs.State.{Added, State, cardLevel, levelOf, meanings, paramsOf}
-use Rattle.forms.specs.Forms.{levelAt}
-use Rattle.forms.specs.Tables.{formAt, stored, words as wordsOf}
-use Rattle.forms.specs.declared.Form.{Form}
-use Rattle.forms.proofs.Tables.{load-other}
-use Rattle.levels.proofs.Named.{numbers-at}
+use Rattle.forms.specs.Forms.{formAt, levelAt, stored}
+use Rattle.forms.proofs.Tables.{load-other, stored-length}
+use Rattle.levels.proofs.Numbered.{numbers-at}
 use Rattle.levels.specs.Tables.{sceneOf, tableWords}
 use Rattle.texts.specs.Text.{Declarations}
 use Rattle.text_levels.proofs.OwnWorld.{Shows}
@@ -58,14 +56,13 @@ module _ (s s′ : State) (d : Added) (n : ℕ) (t : Term) (added : s′ .defini
       ∙ card-new (meanings s) n t us g (length-map (s .definitions) (λ (d : Added). d .meaning) ∙ e)
 
   -- the table with its form at its number
-  module _ (words words′ : List ℕ) (form : Form) (size : length words ≡ tableWords) (kept : words′ ≡ stored words (length (s .definitions)) form)
+  module _ (words words′ : List ℕ) (form : ℕ) (size : length words ≡ tableWords) (kept : words′ ≡ stored words (length (s .definitions)) form)
       (there : formAt words′ (length (s .definitions)) ≡ form) where
     pub words-length : length words′ ≡ tableWords
-    unfolding stored
-    words-length = ap length kept ∙ length-paste words (length (s .definitions) * 4) (wordsOf form) 4 (omega arith) (omega arith) ∙ size
+    words-length = ap length kept ∙ stored-length words (length (s .definitions)) form ∙ size
 
     other-form : (g : ℕ) → (g ≡ length (s .definitions) → ⊥) → formAt words′ g ≡ formAt words g
-    other-form g other = ap (λ (w : List ℕ). formAt w g) kept ∙ load-other words (length (s .definitions)) g form (omega arith) other
+    other-form g other = ap (λ (w : List ℕ). formAt w g) kept ∙ load-other words (length (s .definitions)) g form other
 
     -- shows the state after it
     pub shows-new : (decls : Declarations) → Shows (sceneOf itselves words) decls s
@@ -88,5 +85,5 @@ module _ (s s′ : State) (d : Added) (n : ℕ) (t : Term) (added : s′ .defini
             let m : length (s′ .definitions) ≡ length (s .definitions) + 1 = ap length added ∙ length-append (s .definitions) (d ∷ []) in
             let i : length (s .definitions) ≡ g = omega arith in
             let n : getD itselves g 0 ≡ g = sym (numbers-at 0 maxDefinitions g (omega arith)) ∙ zero-add g in
-            ap (λ (h : ℕ). levelAt (formAt words′ h) us) (n ∙ sym i) ∙ ap (λ (f : Form). levelAt f us) there
+            ap (λ (h : ℕ). levelAt (formAt words′ h) us) (n ∙ sym i) ∙ ap (λ (f : ℕ). levelAt f us) there
             ∙ gives us (e ∙ ap (paramsOf s′) (sym i)) a ∙ sym (new-level g us i)

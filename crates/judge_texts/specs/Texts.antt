@@ -11,12 +11,12 @@ use Rattle.tokens.specs.Expr.{exprAt}
 use Rattle.tokens.specs.Limit.{limitAt}
 use Rattle.tokens.specs.declared.Limit.{Limit}
 use Rattle.tokens.specs.declared.Limit.the-variants.{Kept, Passed}
-use Rattle.forms.specs.Forms.{levelAt}
-use Rattle.forms.specs.Tables.{formAt, stored as storedForm}
+use Rattle.forms.specs.Forms.{formAt, levelAt, stored as storedForm}
 use Rattle.context.specs.Lookup.{codeNamed}
 use Rattle.context.specs.Store.{Store, afterDefinitions, afterField, codesOf, contextCodes, grown, ownRow, stored, withCode, withNumber}
 use Rattle.context.specs.declared.Counts.{Counts}
 use Rattle.resolve.specs.Walk.{Looks}
+use Rattle.levels.specs.Tables.{namesOf}
 use Rattle.levels.specs.Walk.{TextForm}
 use Rattle.judge_plain.specs.Causes.{answer, early, judged, refusal}
 use Rattle.judge_plain.specs.declared.Judged.{Judged}
@@ -28,7 +28,7 @@ use Rattle.judge_texts.specs.declared.Text.{Text}
 -- a text read in a context given by its codes: its names are noted, and its form is that of the module that is open
 pub record Texted (names facts cs file words : List ℕ) (params at : ℕ) (refs refs′ : List ℕ) (t : Text) : Type 0 where
   pub looks : Looks names facts cs params 0 (exprAt maxNesting file at) refs refs′ (t .unknown) (t .miscounted) (t .next)
-  pub form : TextForm refs′ itselves words file 0 at (t .form)
+  pub form : TextForm (namesOf refs′ itselves words 0) file at (t .form)
   pub level : (n : ℕ) → t .level ≡ levelAt (t .form) (replicate n 0)
 
 -- 9, 10, 12

@@ -6,8 +6,7 @@ ghost use lib.ListN.{length};
 ghost use Rattle.limits.specs.Limits.{fileBytes, maxDefinitions, maxModules};
 ghost use Rattle.context.specs.Store.{afterDefinitions, store};
 ghost use Rattle.fields.specs.declared.Parts.the-variants.{Definition};
-ghost use Rattle.forms.specs.Forms.{Fit};
-ghost use Rattle.forms.specs.Tables.{formAt, stored as storedForm};
+ghost use Rattle.forms.specs.Forms.{stored as storedForm};
 ghost use Rattle.levels.specs.Tables.{tableWords};
 ghost use Rattle.judge_plain.specs.Causes.{judged};
 ghost use Rattle.judge_plain.specs.declared.Phase.the-variants.{Inside};
@@ -21,7 +20,6 @@ use context::Code;
 use context::Counts;
 use context::adding::add_definition;
 use context::lookup::find_entry;
-use forms::Form;
 use judge_plain::Judged;
 use judge_plain::Phase;
 use judge_plain::out_of_order;
@@ -75,10 +73,10 @@ pub fn add_text(
     params: u8,
     at: usize,
     len: usize,
-    form: Form,
+    form: u64,
 ) -> Judged
-    requires { ⌜ Roomy (now names) (now facts) (now contexts) (now orders) (now heads) c × (c .definitions < maxDefinitions) × (length (now words) ≡ tableWords) × (at + len ≤ fileBytes) × Fit form ⌝ }
-    ensures { λ r. ⌜ (r ≡ judged 0 Inside (afterDefinitions 1 c)) × Stored (store (now (names .entry)) (now (facts .entry)) (now (contexts .entry)) (now (orders .entry)) (now (heads .entry))) (store (now (names .exit)) (now (facts .exit)) (now (contexts .exit)) (now (orders .exit)) (now (heads .exit))) c name params at len × (now (words .exit) ≡ storedForm (now (words .entry)) (c .definitions) form) × (formAt (now (words .exit)) (c .definitions) ≡ form) ⌝ }
+    requires { ⌜ Roomy (now names) (now facts) (now contexts) (now orders) (now heads) c × (c .definitions < maxDefinitions) × (length (now words) ≡ tableWords) × (at + len ≤ fileBytes) ⌝ }
+    ensures { λ r. ⌜ (r ≡ judged 0 Inside (afterDefinitions 1 c)) × Stored (store (now (names .entry)) (now (facts .entry)) (now (contexts .entry)) (now (orders .entry)) (now (heads .entry))) (store (now (names .exit)) (now (facts .exit)) (now (contexts .exit)) (now (orders .exit)) (now (heads .exit))) c name params at len × (now (words .exit) ≡ storedForm (now (words .entry)) (c .definitions) form) ⌝ }
 {
     let number = c.definitions;
     let counts = add_definition(
@@ -93,7 +91,7 @@ pub fn add_text(
         at as u16,
         len as u16,
     );
-    forms::table::store(words, number, form);
+    words[number] = form;
     Judged {
         cause: 0,
         phase: Phase::Inside,
@@ -117,7 +115,7 @@ pub fn finish_definition(
     len: usize,
     t: Text,
 ) -> Judged
-    requires { ⌜ Roomy (now names) (now facts) (now contexts) (now orders) (now heads) c × (c .definitions < maxDefinitions) × (length (now words) ≡ tableWords) × (at + len ≤ fileBytes) × Fit (t .form) ⌝ }
+    requires { ⌜ Roomy (now names) (now facts) (now contexts) (now orders) (now heads) c × (c .definitions < maxDefinitions) × (length (now words) ≡ tableWords) × (at + len ≤ fileBytes) ⌝ }
     ensures { λ r. ⌜ Finished (store (now (names .entry)) (now (facts .entry)) (now (contexts .entry)) (now (orders .entry)) (now (heads .entry))) (store (now (names .exit)) (now (facts .exit)) (now (contexts .exit)) (now (orders .exit)) (now (heads .exit))) (now (words .entry)) (now (words .exit)) phase c name params at len t r ⌝ }
 {
     let cause = text_cause(t);

@@ -7,11 +7,10 @@ ghost use Prim.Native.Nat.{_≤_};
 ghost use lib.ListN.{length};
 ghost use Rattle.limits.specs.Limits.{maxModules};
 ghost use Rattle.context.specs.Store.{contextCodes};
-ghost use Rattle.levels.specs.Tables.{tableWords};
+ghost use Rattle.levels.specs.Tables.{namesOf, tableWords};
 ghost use Rattle.levels.specs.Walk.{TextForm};
 ghost use Rattle.standing.specs.Standing.{itselves};
 ghost use Rattle.judge_texts.specs.Texts.{Texted, textCause};
-use forms::Form;
 use forms::card::level_at_zero;
 use levels::names::identity;
 use levels::text_form;
@@ -25,13 +24,13 @@ pub struct Text {
     pub unknown: bool,
     pub miscounted: bool,
     pub level: u8,
-    pub form: Form,
+    pub form: u64,
 }
 
 // The form of a text of the module that is open: every definition is itself, no instance is around it.
-pub fn own_form(file: &[u8], refs: &[u16], words: &[u64], at: usize) -> Form
+pub fn own_form(file: &[u8], refs: &[u16], words: &[u64], at: usize) -> u64
     requires { ⌜ length (now words) ≡ tableWords ⌝ }
-    ensures { λ r. ⌜ TextForm (now (refs .entry)) itselves (now (words .entry)) (now (file .entry)) 0 at r ⌝ }
+    ensures { λ r. ⌜ TextForm (namesOf (now (refs .entry)) itselves (now (words .entry)) 0) (now (file .entry)) at r ⌝ }
 {
     let mut numbers = [0u16; Limits::DEFINITIONS];
     identity(&mut numbers);

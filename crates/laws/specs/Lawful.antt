@@ -22,11 +22,11 @@ adds s (f ∷ fs) = adds (add s f) fs
 abbrev pub holds : ℕ → List Cause → Bool
 holds c cs = any (λ (x : Cause). x .1 && eqb c (x .0)) cs
 
--- cause c of the table "When the checker says no" does not hold of field f, which is read after the fields that led to s
+-- cause c, of the table "When the checker says no" or 21 (paper 02, L5), does not hold of field f, which is read after the fields that led to s
 abbrev pub Free : State → Field → ℕ → Type 0
 Free s f c = holds c (causes s f) ≡ false
 
--- A field that obeys the rules: no cause of the table holds. Each is named by the rule that it is of.
+-- A field that obeys the rules: no cause holds. Each is named by the rule that it is of.
 pub record FieldObeys (s : State) (f : Field) : Type 0 where
   -- "field outside its order"
   pub order : Free s f 4
@@ -38,9 +38,9 @@ pub record FieldObeys (s : State) (f : Field) : Type 0 where
   pub arity : Free s f 10
   -- "level 4 in a body (parameters at 0), substitute or formula", "ASSUME not level 0"
   pub levels : Free s f 12 × Free s f 13
-  -- "substituted name not declared there, or twice", "substitute's level not lawful", "a brought definition is 4 with parameters at 0", "the module
-  -- instanced has a named instance, its own or extended"
-  pub instances : Free s f 11 × Free s f 14 × Free s f 15 × Free s f 16
+  -- "substituted name not declared there, or twice", "substitute's level not lawful", "an instance of a constant module whose substitutes, implicit ones
+  -- included, hold both a 2 and a 3", "a brought definition is 4 with parameters at 0", "the module instanced has a named instance, its own or extended"
+  pub instances : Free s f 11 × Free s f 14 × Free s f 21 × Free s f 15 × Free s f 16
 
 -- each field, in its turn, after what the fields before it have added
 abbrev pub EachObeys : State → List Field → Type 0

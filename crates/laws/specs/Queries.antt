@@ -1,13 +1,13 @@
 -- Which expressions a query takes, and why it is refused; s is what the fields of an accepted file add, `fields` how many they are.
 -- "The file's causes come first, then 17, then the expression's, then 18."
 use mathlib.Core.Bool.{false}
-use mathlib.Core.List.{List, []}
+use mathlib.Core.List.{List, [], _∷_}
 use mathlib.Core.Logic.{_⊎_}
 use mathlib.Core.Option.{none, some}
 use mathlib.Core.Path.{_≡_}
 use lib.ListN.{length}
 use Prim.Native.Nat.{_<_, _≤_, ℕ}
-use Rattle.laws.specs.Refused.{Lowest}
+use Rattle.laws.specs.Refused.{JudgedFirst}
 use Rattle.limits.specs.Limits.{expansionBytes}
 use Rattle.rules.specs.Expression.{Expression, expression, overArity, overLimit}
 use Rattle.rules.specs.Judge.{miscounted, unknown}
@@ -31,11 +31,15 @@ pub record BelongsIn (s : State) (m n : ℕ) (bytes : List ℕ) : Type 0 where
 abbrev pub termIn : (s : State) (m n : ℕ) (bytes : List ℕ) → BelongsIn s m n bytes → Term
 termIn s m n bytes b = resolve s (b .place .context) (b .expr)
 
+-- the numbers of its causes, in the order that they are judged
+abbrev pub expressionNumbers : List ℕ
+expressionNumbers = 3 ∷ 5 ∷ 9 ∷ 10 ∷ []
+
 -- Why the expression of a query, read at the end of module M over n parameters, is refused with c. "A query's expression is judged like a THEOREM field
 -- with its parameters, without cause 12 and of any length; a given level above 4 is 3, a fourth parameter 5."
 pub data ExpressionRefused (s : State) (M : Module) (n : ℕ) (levels bytes : List ℕ) (c : ℕ) : Type 0 where
   unreadable : expression .read bytes ≡ none → c ≡ 3 → ExpressionRefused s M n levels bytes c
-  by-lowest : (e : Expression) → expression .read bytes ≡ some e → Lowest (queryCauses s M levels n e) c → ExpressionRefused s M n levels bytes c
+  by-cause : (e : Expression) → expression .read bytes ≡ some e → JudgedFirst expressionNumbers (queryCauses s M levels n e) c → ExpressionRefused s M n levels bytes c
 
 -- 17, "no such module or definition": no module of that name is ended;
 abbrev pub NoModule : State → ℕ → Type 0

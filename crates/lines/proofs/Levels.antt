@@ -5,7 +5,6 @@ use Prim.Native.Nat.{ℕ, zero, suc, _+_, _-_, _*_, _^_, _≤_, _<_}
 use native.Mathlib.Nat.{pow-le-pow-right, pow-suc}
 use native.Mathlib.Numerals.{add-one}
 use native.Mathlib.Omega.{arith}
-use mathlib.Core.Bool.{Bool, true, false}
 use lib.ListN.{drop-of-length-le, getD, length, length-map, replicate, set, take}
 use lib.Seq.{length-sets, length-take-le, sets, paste, take-all, take-at, take-suc}
 use Rattle.limits.specs.Limits.{cardBytes, levelCount, maxArity}
@@ -13,8 +12,8 @@ use Rattle.theory.proofs.Cards.{card-length, used-length}
 use Rattle.theory.proofs.Lists.{append-all, getD-all, replicate-all}
 use Rattle.theory.specs.Card.{cardOf, levelsOf, usedEntries}
 use Rattle.theory.specs.Lists.{All, numbersFrom}
-use Rattle.forms.specs.declared.Form.{Form}
-use Rattle.forms.specs.Forms.{levelAt, pass, passed}
+use Rattle.forms.specs.Forms.{levelAt}
+use Rattle.forms.proofs.Forms.{at-low}
 use Rattle.lines.specs.Text.{digit, entries}
 use Rattle.lines.specs.Writes.{Writes}
 use Rattle.lines.proofs.Writing.{sets-more, writes-as}
@@ -55,25 +54,20 @@ module _ {card : List ℕ} {n : ℕ} {out₀ : List ℕ} {at : ℕ} {out : List 
       }
 
 -- a form gives levels
-pub level-small : (f : Form) (v : List ℕ) → levelAt f v ≤ 4
-unfolding levelAt passed
-level-small f v = go (pass (f .tests) v) _
-  where
-    go : (b : Bool) (x : ℕ) → passed b x ≤ 4
-    go true x = omega arith
-    go false x = omega arith
+pub level-small : (f : ℕ) (v : List ℕ) → levelAt f v ≤ 4
+level-small f v = at-low f v
 
-levels-small : (n i m : ℕ) (f : Form) → All (λ x. x ≤ 4) (map (λ j. levelAt f (levelsOf n j)) (numbersFrom i m))
+levels-small : (n i m : ℕ) (f : ℕ) → All (λ x. x ≤ 4) (map (λ j. levelAt f (levelsOf n j)) (numbersFrom i m))
 levels-small n i zero f = tt
 levels-small n i (suc m) f = (level-small f (levelsOf n i), levels-small n (suc i) m f)
 
-card-small : (n : ℕ) (f : Form) → All (λ x. x ≤ 4) (cardOf n (levelAt f))
+card-small : (n : ℕ) (f : ℕ) → All (λ x. x ≤ 4) (cardOf n (levelAt f))
 card-small n f =
     append-all (λ x. x ≤ 4) (usedEntries n (levelAt f)) (replicate (cardBytes - levelCount ^ n) 0) (levels-small n 0 (levelCount ^ n) f)
     (replicate-all (λ x. x ≤ 4) (cardBytes - levelCount ^ n) 0 (omega arith))
 
 -- a card in memory of its size
-module _ (n : ℕ) (f : Form) (card space : List ℕ) (few : n ≤ maxArity) (full : length space ≡ cardBytes) (put : card ≡ paste space 0 (cardOf n (levelAt f)) cardBytes) where
+module _ (n : ℕ) (f : ℕ) (card space : List ℕ) (few : n ≤ maxArity) (full : length space ≡ cardBytes) (put : card ≡ paste space 0 (cardOf n (levelAt f)) cardBytes) where
   card-is : card ≡ cardOf n (levelAt f)
   card-is =
       let l : length (cardOf n (levelAt f)) ≡ cardBytes = card-length n (levelAt f) few in
@@ -97,7 +91,7 @@ pub used-fits : (n : ℕ) → n ≤ maxArity → levelCount ^ n ≤ cardBytes
 used-fits n few = pow-le-pow-right {n = levelCount} (omega arith) {i = n} {j = maxArity} few
 
 -- what putting the levels of a card asks
-pub levels-asked : (n size : ℕ) (f : Form) (space card out : List ℕ) (at : ℕ) → n ≤ maxArity → length space ≡ cardBytes → size ≡ levelCount ^ n
+pub levels-asked : (n size : ℕ) (f : ℕ) (space card out : List ℕ) (at : ℕ) → n ≤ maxArity → length space ≡ cardBytes → size ≡ levelCount ^ n
     → card ≡ paste space 0 (cardOf n (levelAt f)) cardBytes → at + cardBytes ≤ length out
     → ((i : ℕ) → getD card i 0 ≤ 4) × (size ≤ length card) × (at + size ≤ length out)
 levels-asked n size f space card out at few full s put room =
@@ -105,7 +99,7 @@ levels-asked n size f space card out at few full s put room =
     (card-levels n f card space few full put, omega (arith, most, s, card-size n f card space few full put), omega (arith, most, s))
 
 -- what the levels of a card lay down
-pub entries-put : (n size : ℕ) (f : Form) (space card out out′ : List ℕ) (at r : ℕ) → n ≤ maxArity → length space ≡ cardBytes → size ≡ levelCount ^ n
+pub entries-put : (n size : ℕ) (f : ℕ) (space card out out′ : List ℕ) (at r : ℕ) → n ≤ maxArity → length space ≡ cardBytes → size ≡ levelCount ^ n
     → card ≡ paste space 0 (cardOf n (levelAt f)) cardBytes → Writes out out′ at (map digit (take size card)) r → Writes out out′ at (entries n (levelAt f)) r × (r ≤ at + cardBytes)
 entries-put n size f space card out out′ at r few full s put w =
     let e = card-used n f card space few full put size s in

@@ -18,9 +18,8 @@ use Rattle.rules.specs.Run.{result}
 use Rattle.rules.specs.State.{Added, State, cardLevel, definitionAt, noDefinition, paramsOf}
 use Rattle.laws.proofs.Within.{Within}
 use Rattle.texts.specs.Text.{Declarations}
-use Rattle.forms.specs.Forms.{levelAt}
-use Rattle.forms.specs.Tables.{formAt}
-use Rattle.levels.proofs.Named.{numbers-at}
+use Rattle.forms.specs.Forms.{formAt, levelAt}
+use Rattle.levels.proofs.Numbered.{numbers-at}
 use Rattle.levels.specs.Tables.{sceneOf}
 use Rattle.text_levels.proofs.OwnWorld.{Shows}
 use Rattle.context.specs.Holds.{Holds}

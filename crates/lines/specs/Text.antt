@@ -7,8 +7,7 @@ use lib.ListN.{getD}
 use Rattle.limits.specs.Limits.{maxArity, maxDefinitions}
 use Rattle.theory.specs.Card.{usedEntries}
 use Rattle.rules.specs.Listing.{decimal, line}
-use Rattle.forms.specs.Forms.{levelAt}
-use Rattle.forms.specs.Tables.{formAt}
+use Rattle.forms.specs.Forms.{formAt, levelAt}
 use Rattle.context.specs.Store.{kindAt, viaAt}
 
 -- the parameter count of definition g; none has more than the limit

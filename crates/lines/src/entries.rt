@@ -7,7 +7,6 @@ ghost use Rattle.limits.specs.Limits.{cardBytes, levelCount, maxArity};
 ghost use Rattle.forms.specs.Forms.{levelAt};
 ghost use Rattle.lines.specs.Text.{digit, entries};
 ghost use Rattle.lines.specs.Writes.{Writes};
-use forms::Form;
 use forms::card::fill;
 use limits::Limits;
 
@@ -40,7 +39,7 @@ fn put_levels(card: &[u8], n: usize, out: &mut [u8], at: usize) -> usize
 }
 
 // The used entries of the card of f over n parameters, by way of memory for a card.
-fn put_card(f: Form, n: usize, card: &mut [u8], out: &mut [u8], at: usize) -> usize
+fn put_card(f: u64, n: usize, card: &mut [u8], out: &mut [u8], at: usize) -> usize
     requires { ⌜ (n ≤ maxArity) × (length (now card) ≡ cardBytes) × (at + cardBytes ≤ length (now out)) ⌝ }
     ensures { λ r. ⌜ Writes (now (out .entry)) (now (out .exit)) at (entries n (levelAt f)) r × (r ≤ at + cardBytes) ⌝ }
 {
@@ -49,7 +48,7 @@ fn put_card(f: Form, n: usize, card: &mut [u8], out: &mut [u8], at: usize) -> us
     put_levels(card, size, out, at)
 }
 
-pub fn put_entries(f: Form, n: usize, out: &mut [u8], at: usize) -> usize
+pub fn put_entries(f: u64, n: usize, out: &mut [u8], at: usize) -> usize
     requires { ⌜ (n ≤ maxArity) × (at + cardBytes ≤ length (now out)) ⌝ }
     ensures { λ r. ⌜ Writes (now (out .entry)) (now (out .exit)) at (entries n (levelAt f)) r × (r ≤ at + cardBytes) ⌝ }
 {

@@ -15,7 +15,7 @@ use crate::entries::put_entries;
 use crate::numbers::put_byte;
 use crate::numbers::put_number;
 use context::lists::number_at;
-use forms::table::load;
+use levels::names::form_at;
 use limits::Limits;
 
 const SPACE: u8 = 32;
@@ -55,7 +55,7 @@ fn put_line(
     ensures { λ r. ⌜ Writes (now (out .entry)) (now (out .exit)) at (lineAt (now (names .entry)) (now (facts .entry)) (now (words .entry)) g) r × (r ≤ at + lineRoom) ⌝ }
 {
     let k = within(number_at(facts, Limits::COLUMNS * g));
-    let f = load(words, g);
+    let f = form_at(words, g);
     let named = put_names(names, facts, g, out, at);
     let counted = put_number(out, named, k, SPACE);
     let filled = put_entries(f, k, out, counted);

@@ -136,7 +136,7 @@ fn expand_fields(
     let mut orders = Limits::no_orders();
     let mut heads = Limits::no_heads();
     let mut refs = [0u16; Limits::FILE_BYTES];
-    let mut words = [0u64; 4 * (Limits::DEFINITIONS + Limits::DECLARATIONS)];
+    let mut words = [0u64; Limits::DEFINITIONS + Limits::DECLARATIONS];
     let mut declared = [0u16; Limits::DECLARATIONS];
     let mut marks = [0u16; Limits::CODES];
     let mut tally = [0u16; Limits::DEFINITIONS];

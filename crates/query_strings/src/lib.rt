@@ -23,8 +23,6 @@ use skimming::Place;
 use spelling::Rest;
 use tables::Long;
 use tables::brought;
-use tables::columns;
-use tables::columns::Columns;
 use tables::names;
 
 // Of an expression: whether it keeps the limits; and if it does, whether its names are known and rightly counted, and the position after it;
@@ -50,10 +48,10 @@ pub struct Read {
     pub to: usize,
 }
 
-// The expression that the bytes begin with, by tables that may be empty.
+// The expression that the bytes begin with, by tables of names that may be empty.
 fn read_with(
     expr: &[u8],
-    columns: &[u8],
+    column: &[u16],
     table: &[u8],
     nexts: &[u8],
     contexts: &[u16],
@@ -64,14 +62,14 @@ fn read_with(
     p: Place,
     out: &mut [u8],
 ) -> Queried
-    requires { ⌜ Serves (now names) (now contexts) (now columns) (now table) (now nexts) (p .from) (p .end) ⌝ }
+    requires { ⌜ Serves (now names) (now contexts) (now column) (now table) (now nexts) (p .from) (p .end) ⌝ }
     ensures { λ r. ⌜ QueryRead (now (expr .entry)) (now (names .entry)) (now (facts .entry)) (part (now (contexts .entry)) (p .from) (p .end - p .from)) (now (declared .entry)) (now (shapes .entry)) (p .params) (now (out .exit)) (length (now (out .entry))) r ⌝ }
 {
     let mut own = [0u16; Limits::DEFINITIONS];
     identity(&mut own);
     let a = read_expr(
         expr,
-        columns,
+        column,
         table,
         nexts,
         contexts,
@@ -98,7 +96,7 @@ fn read_with(
     }
 }
 
-// The same with no tables, which costs less where the expression is short.
+// The same with no tables of names, which costs less where the expression is short.
 fn read_short(
     expr: &[u8],
     contexts: &[u16],
@@ -112,12 +110,12 @@ fn read_short(
     requires { ⌜ p .from < 2 ^ 32 ⌝ }
     ensures { λ r. ⌜ QueryRead (now (expr .entry)) (now (names .entry)) (now (facts .entry)) (part (now (contexts .entry)) (p .from) (p .end - p .from)) (now (declared .entry)) (now (shapes .entry)) (p .params) (now (out .exit)) (length (now (out .entry))) r ⌝ }
 {
-    let columns = [0u8; 1];
+    let column = rows::row_column();
     let table = [0u8; 1];
     let nexts = [0u8; 1];
     read_with(
         expr,
-        &columns[..0],
+        &column,
         &table[..0],
         &nexts[..0],
         contexts,
@@ -146,13 +144,12 @@ fn read_long(
     requires { ⌜ (length (now table) ≡ nameBytes) × Zeroed (now table) × (length (now nexts) ≡ nextBytes) × (p .from < 2 ^ 32) × (p .from ≤ p .end) × (p .end - p .from < wordCount) ⌝ }
     ensures { λ r. ⌜ QueryRead (now (expr .entry)) (now (names .entry)) (now (facts .entry)) (part (now (contexts .entry)) (p .from) (p .end - p .from)) (now (declared .entry)) (now (shapes .entry)) (p .params) (now (out .exit)) (length (now (out .entry))) r ⌝ }
 {
-    let mut columns = [0u8; Columns::ENTRIES];
-    columns::fill(&mut columns);
+    let column = rows::row_column();
     names::fill(names, contexts, table, p.from, p.end);
     brought::fill(names, nexts);
     read_with(
         expr,
-        &columns,
+        &column,
         table,
         nexts,
         contexts,

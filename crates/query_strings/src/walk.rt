@@ -57,7 +57,7 @@ fn joined(a: Read, b: Read) -> Read
 // Where nothing is to be written.
 fn read_unwritten(
     s: &[u8],
-    columns: &[u8],
+    column: &[u16],
     table: &[u8],
     nexts: &[u8],
     contexts: &[u16],
@@ -69,12 +69,12 @@ fn read_unwritten(
     bound: usize,
     to: usize,
 ) -> Read
-    requires { ⌜ Serves (now names) (now contexts) (now columns) (now table) (now nexts) (p .from) (p .end) × (bound + nest < wordCount) ⌝ }
+    requires { ⌜ Serves (now names) (now contexts) (now column) (now table) (now nexts) (p .from) (p .end) × (bound + nest < wordCount) ⌝ }
     ensures { λ r. ⌜ Skims (now (names .entry)) (now (facts .entry)) (part (now (contexts .entry)) (p .from) (p .end - p .from)) (p .params) bound (exprAt nest (now (s .entry)) at) (r .kept) (r .looked) × (r .to ≡ to) ⌝ }
 {
     let a = skim_expr(
         s,
-        columns,
+        column,
         table,
         nexts,
         contexts,
@@ -92,7 +92,7 @@ fn read_unwritten(
 
 // A token looked up, and its first symbols.
 fn read_head(
-    columns: &[u8],
+    column: &[u16],
     table: &[u8],
     nexts: &[u8],
     contexts: &[u16],
@@ -106,7 +106,7 @@ fn read_head(
     t: Token,
     q: usize,
 ) -> Head
-    requires { ⌜ Serves (now names) (now contexts) (now columns) (now table) (now nexts) (p .from) (p .end) ⌝ }
+    requires { ⌜ Serves (now names) (now contexts) (now column) (now table) (now nexts) (p .from) (p .end) ⌝ }
     ensures { λ h. ⌜ ReadsHead (now (names .entry)) (now (facts .entry)) (part (now (contexts .entry)) (p .from) (p .end - p .from)) (now (declared .entry)) (now (numbers .entry)) (now (shapes .entry)) t (now (out .entry)) q (now (out .exit)) h ⌝ }
 {
     let l = look(names, facts, contexts, table, nexts, p.from, p.end, t);
@@ -119,7 +119,7 @@ fn read_head(
 // The expression at a position that nests at most `nest` deep; its string is written from q on.
 pub fn read_expr(
     s: &[u8],
-    columns: &[u8],
+    column: &[u16],
     table: &[u8],
     nexts: &[u8],
     contexts: &[u16],
@@ -135,13 +135,13 @@ pub fn read_expr(
     bound: usize,
     q: usize,
 ) -> Read
-    requires { ⌜ Serves (now names) (now contexts) (now columns) (now table) (now nexts) (p .from) (p .end) × (bound + nest < wordCount) ⌝ }
+    requires { ⌜ Serves (now names) (now contexts) (now column) (now table) (now nexts) (p .from) (p .end) × (bound + nest < wordCount) ⌝ }
     ensures { λ r. ⌜ Reads (now (names .entry)) (now (facts .entry)) (part (now (contexts .entry)) (p .from) (p .end - p .from)) (now (declared .entry)) (now (numbers .entry)) (now (shapes .entry)) (p .params) bound (exprAt nest (now (s .entry)) at) (now (out .entry)) q (now (out .exit)) r ⌝ }
 {
     if out.len() < q {
         return read_unwritten(
             s,
-            columns,
+            column,
             table,
             nexts,
             contexts,
@@ -157,15 +157,15 @@ pub fn read_expr(
     if nest == 0 {
         return stopped(at, q);
     }
-    let t = token_in(s, columns, at);
+    let t = token_in(s, column, at);
     if tokens::is_token(t) {
-        let k = arguments_in(columns, t);
+        let k = arguments_in(column, t);
         if (Limits::ARITY as u8) < k {
             return stopped(at, q);
         }
         return read_token(
             s,
-            columns,
+            column,
             table,
             nexts,
             contexts,
@@ -190,7 +190,7 @@ pub fn read_expr(
 // A token over its k arguments.
 fn read_token(
     s: &[u8],
-    columns: &[u8],
+    column: &[u16],
     table: &[u8],
     nexts: &[u8],
     contexts: &[u16],
@@ -208,11 +208,11 @@ fn read_token(
     t: Token,
     k: u8,
 ) -> Read
-    requires { ⌜ Serves (now names) (now contexts) (now columns) (now table) (now nexts) (p .from) (p .end) × (bound + nest < wordCount) × Stands (now s) at nest t k ⌝ }
+    requires { ⌜ Serves (now names) (now contexts) (now column) (now table) (now nexts) (p .from) (p .end) × (bound + nest < wordCount) × Stands (now s) at nest t k ⌝ }
     ensures { λ r. ⌜ Reads (now (names .entry)) (now (facts .entry)) (part (now (contexts .entry)) (p .from) (p .end - p .from)) (now (declared .entry)) (now (numbers .entry)) (now (shapes .entry)) (p .params) bound (exprAt nest (now (s .entry)) at) (now (out .entry)) q (now (out .exit)) r ⌝ }
 {
     let h = read_head(
-        columns,
+        column,
         table,
         nexts,
         contexts,
@@ -227,12 +227,12 @@ fn read_token(
         q,
     );
     let start = after_token(s, at, t);
-    let last = bound_inside(columns, t, bound);
+    let last = bound_inside(column, t, bound);
     let l = h.look;
     let rest = h.rest;
     let a = read_args(
         s,
-        columns,
+        column,
         table,
         nexts,
         contexts,
@@ -259,7 +259,7 @@ fn read_token(
 // k arguments from a position on, the last of them where `last` bound variables are known; what is left to be written of them is written.
 fn read_args(
     s: &[u8],
-    columns: &[u8],
+    column: &[u16],
     table: &[u8],
     nexts: &[u8],
     contexts: &[u16],
@@ -277,7 +277,7 @@ fn read_args(
     last: usize,
     rest: Rest,
 ) -> Read
-    requires { ⌜ Serves (now names) (now contexts) (now columns) (now table) (now nexts) (p .from) (p .end) × (outer + nest < wordCount) × (last + nest < wordCount) ⌝ }
+    requires { ⌜ Serves (now names) (now contexts) (now column) (now table) (now nexts) (p .from) (p .end) × (outer + nest < wordCount) × (last + nest < wordCount) ⌝ }
     ensures { λ r. ⌜ ReadsAll (now (names .entry)) (now (facts .entry)) (part (now (contexts .entry)) (p .from) (p .end - p .from)) (now (declared .entry)) (now (numbers .entry)) (now (shapes .entry)) (p .params) outer last (several (exprAt nest (now (s .entry))) at k) k rest (now (out .entry)) (now (out .exit)) r ⌝ }
 {
     if k == 0 {
@@ -290,7 +290,7 @@ fn read_args(
     let bound = bound_in(k, outer, last);
     let a = read_argument(
         s,
-        columns,
+        column,
         table,
         nexts,
         contexts,
@@ -311,7 +311,7 @@ fn read_args(
         let left = passed(rest, a.to);
         let b = read_args(
             s,
-            columns,
+            column,
             table,
             nexts,
             contexts,
@@ -337,7 +337,7 @@ fn read_args(
 // The first of k arguments.
 fn read_argument(
     s: &[u8],
-    columns: &[u8],
+    column: &[u16],
     table: &[u8],
     nexts: &[u8],
     contexts: &[u16],
@@ -354,14 +354,14 @@ fn read_argument(
     bound: usize,
     rest: Rest,
 ) -> Read
-    requires { ⌜ Serves (now names) (now contexts) (now columns) (now table) (now nexts) (p .from) (p .end) × (bound + nest < wordCount) ⌝ }
+    requires { ⌜ Serves (now names) (now contexts) (now column) (now table) (now nexts) (p .from) (p .end) × (bound + nest < wordCount) ⌝ }
     ensures { λ r. ⌜ ReadsArgument (now (names .entry)) (now (facts .entry)) (part (now (contexts .entry)) (p .from) (p .end - p .from)) (now (declared .entry)) (now (numbers .entry)) (now (shapes .entry)) (p .params) bound (exprAt nest (now (s .entry)) at) k rest (now (out .entry)) (now (out .exit)) r ⌝ }
 {
     if is_written(rest) {
         let q = open_argument(out, rest, k);
         let a = read_expr(
             s,
-            columns,
+            column,
             table,
             nexts,
             contexts,
@@ -384,7 +384,7 @@ fn read_argument(
     }
     read_unwritten(
         s,
-        columns,
+        column,
         table,
         nexts,
         contexts,

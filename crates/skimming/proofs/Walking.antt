@@ -9,7 +9,9 @@ use lib.Dec.{eqb, leb}
 use lib.ListN.{getD, length}
 use Rattle.limits.specs.Limits.{maxArity}
 use Rattle.theory.specs.Tree.{⟨⟩}
-use Rattle.rows.specs.Rows.{arityOf, binderOf, noCode}
+use Rattle.rows.specs.Rows.{arityOf, noCode}
+use Rattle.rows.specs.Numbers.{arityIn, binderIn, rowNumber}
+use Rattle.rows.proofs.Numbers.{row-arity, row-binder}
 use Rattle.tokens.specs.Expr.{Found, Founds, after, exprAt, found, founds, none, several}
 use Rattle.tokens.specs.Fold.{Algebra, fold, underOf}
 use Rattle.tokens.specs.Limit.{countsKept}
@@ -31,13 +33,13 @@ use Rattle.skimming.specs.declared.Skimmed.{Skimmed}
 use Rattle.skimming.specs.declared.Step.{Step}
 use Rattle.skimming.proofs.Keeping.{any-kept, any-worth, kept-count, kept-limit, kept-lost, kept-nothing, kept-token, kepts-lost, kepts-more, kepts-none}
 
--- the variables bound in a built-in's last argument
-module _ (k c b : ℕ) (e : b ≡ binderOf c) where
+-- the variables bound in the last argument of a built-in of row h
+module _ (k c h b : ℕ) (eh : h ≡ rowNumber c) (e : b ≡ binderIn h) where
   pub in-plain : b ≡ 0 → k ≡ inside (BuiltIn c) k
-  in-plain z = binds-none (BuiltIn c) b k e z
+  in-plain z = binds-none (BuiltIn c) b k (row-binder c h eh b e) z
 
   pub in-binder : (b ≡ 0 → ⊥) → k + 1 ≡ inside (BuiltIn c) k
-  in-binder z = binds-one (BuiltIn c) b k e z
+  in-binder z = binds-one (BuiltIn c) b k (row-binder c h eh b e) z
 
 module _ (t : Token) (k : ℕ) where
   pub in-parameter : (i : ℕ) → t ≡ Parameter i → k ≡ inside t k
@@ -52,8 +54,8 @@ module _ (t : Token) (k : ℕ) where
   pub in-instance : (i n a : ℕ) → t ≡ InstanceOperator i n a → k ≡ inside t k
   in-instance i n a h = rw h refl
 
-  pub in-built-in : (c r : ℕ) → t ≡ BuiltIn c → r ≡ inside (BuiltIn c) k → r ≡ inside t k
-  in-built-in c r h e = rw h e
+  pub in-built-in : (c h r : ℕ) → t ≡ BuiltIn c → h ≡ rowNumber c → ((c : ℕ) → h ≡ rowNumber c → r ≡ inside (BuiltIn c) k) → r ≡ inside t k
+  in-built-in c h r p eh e = rw p (e c eh)
 
   pub in-literal : (v : ℕ) → t ≡ Literal v → k ≡ inside t k
   in-literal v h = rw h refl
@@ -191,8 +193,9 @@ module _ (names facts cs : List ℕ) (p : ℕ) where
       step-parameter z l =
           step-over (Parameter x) (reads-parameter s (a .next) x tag more ex et z) refl (omega arith) (l .count) (l .inner) (l .next) (l .unknown) (l .miscounted) (l .kept)
 
-      pub step-no-code : tag ≡ 4 → (k : ℕ) → k ≡ arityOf x → k ≡ noCode → (r .kept ≡ false) × (r .count ≡ 0) × (r .inner ≡ e) → Steps names facts cs p e s a r
-      step-no-code z k ek ec (h, c, q) = no-step h c q (nothing-there NoToken (reads-no-code s (a .next) x tag more ex et z (sym ek ∙ ec)) refl)
+      pub step-no-code : tag ≡ 4 → (h k : ℕ) → h ≡ rowNumber x → k ≡ arityIn h → k ≡ noCode → (r .kept ≡ false) × (r .count ≡ 0) × (r .inner ≡ e) → Steps names facts cs p e s a r
+      step-no-code z h k eh ek ec (l, c, q) =
+          no-step l c q (nothing-there NoToken (reads-no-code s (a .next) x tag more ex et z (sym (row-arity x h eh k ek) ∙ ec)) refl)
 
   module _ (e : ℕ) (s : List ℕ) (a : Looked) (k inner : ℕ) (b : Looked) where
     abbrev stepped : Looked → Step
@@ -207,14 +210,17 @@ module _ (names facts cs : List ℕ) (p : ℕ) where
         (h .miscounted ∙ or-comm (miscountedIn names facts cs e 0 t) (b .miscounted) ∙ ap (λ (y : Bool). y || miscountedIn names facts cs e 0 t) bm) refl
 
     -- a built-in's count is within the limit
-    pub step-code : (x tag : ℕ) → 1 < length s - a .next → x ≡ getD s (a .next + 1) 0 → tag ≡ getD s (a .next) 0 → tag ≡ 4 → k ≡ arityOf x → (k ≡ noCode → ⊥)
-        → inner ≡ inside (BuiltIn x) e → (b .next ≡ a .next + 2) × (b .unknown ≡ a .unknown) × (b .miscounted ≡ a .miscounted)
+    pub step-code : (x tag h : ℕ) → 1 < length s - a .next → x ≡ getD s (a .next + 1) 0 → tag ≡ getD s (a .next) 0 → tag ≡ 4 → h ≡ rowNumber x → k ≡ arityIn h
+        → (k ≡ noCode → ⊥) → ((c : ℕ) → h ≡ rowNumber c → inner ≡ inside (BuiltIn c) e) → (b .next ≡ a .next + 2) × (b .unknown ≡ a .unknown) × (b .miscounted ≡ a .miscounted)
         → Steps names facts cs p e s a (record { kept = true; count = k; inner = inner; looked = b })
-    step-code x tag more ex et z ek ec el (bn, bu, bm) =
+    step-code x tag h more ex et z eh ea ec el (bn, bu, bm) =
         step-over e s a (stepped b) (BuiltIn x) reads refl
         (leb-true (arityOf x) maxArity (sym (ap (λ (y : Token). leb (argumentsOf y) maxArity) (sym reads)) ∙ sym (written-count s (a .next)) ∙ ap (λ (y : Token). leb (writtenOf y) maxArity) (sym reads)))
-        ek el bn (bu ∙ sym (or-false (a .unknown))) (bm ∙ sym (or-false (a .miscounted))) refl
+        ek (el x eh) bn (bu ∙ sym (or-false (a .unknown))) (bm ∙ sym (or-false (a .miscounted))) refl
       where
+        ek : k ≡ arityOf x
+        ek = row-arity x h eh k ea
+
         reads : BuiltIn x ≡ tokenAt s (a .next)
         reads = reads-code s (a .next) x tag more ex et z (λ (q : arityOf x ≡ noCode). ec (ek ∙ q))
 

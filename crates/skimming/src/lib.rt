@@ -1,15 +1,15 @@
 // Limits and names of a query's expression, by one walk that looks for no level.
 ghost use mathlib.Core.Path.{_≡_};
 ghost use mathlib.Core.Bool.{false};
-ghost use Prim.Native.Nat.{_+_, _-_, _<_, _≤_};
+ghost use Prim.Native.Nat.{ℕ, _+_, _-_, _<_, _≤_};
 ghost use lib.Dec.{leb};
 ghost use Rattle.limits.specs.Limits.{maxArity};
+ghost use Rattle.rows.specs.Numbers.{rowColumn, rowNumber};
 ghost use Rattle.tokens.specs.Expr.{exprAt, several};
 ghost use Rattle.tokens.specs.Fold.{underOf};
 ghost use Rattle.tokens.specs.declared.Token.the-variants.{BuiltIn};
 ghost use Rattle.context.specs.Parts.{part};
 ghost use Rattle.resolve.specs.Walk.{inside, wordCount};
-ghost use Rattle.tables.specs.Columns.{Columned};
 ghost use Rattle.tables.specs.Serves.{Serves};
 ghost use Rattle.skimming.specs.Skims.{Heads, Leaf, Skims, SkimsAll, Steps};
 use limits::Limits;
@@ -18,7 +18,7 @@ use resolve::Looked;
 use resolve::steps::both;
 use resolve::steps::nothing;
 use resolve::steps::with_args;
-use tables::columns;
+use rows::Rows;
 use tables::names;
 use tables::token::arguments_in;
 use tables::token::token_in;
@@ -46,12 +46,12 @@ pub struct Step {
     pub looked: Looked,
 }
 
-// How many variables are bound in the last argument of a built-in.
-fn bind(columns: &[u8], code: u8, bound: usize) -> usize
-    requires { ⌜ (bound < wordCount) × Columned (now columns) ⌝ }
-    ensures { λ r. ⌜ r ≡ inside (BuiltIn code) bound ⌝ }
+// How many variables are bound in the last argument of a built-in of row r.
+fn bind(r: u16, bound: usize) -> usize
+    requires { ⌜ bound < wordCount ⌝ }
+    ensures { λ k. ⌜ ((code : ℕ) → r ≡ rowNumber code → k ≡ inside (BuiltIn code) bound) ⌝ }
 {
-    if columns::binder(columns, code) == 0 {
+    if rows::binder_of(r) == 0 {
         bound
     } else {
         bound + 1
@@ -59,8 +59,8 @@ fn bind(columns: &[u8], code: u8, bound: usize) -> usize
 }
 
 // How many variables are bound in a token's last argument.
-pub fn bound_inside(columns: &[u8], t: Token, bound: usize) -> usize
-    requires { ⌜ (bound < wordCount) × Columned (now columns) ⌝ }
+pub fn bound_inside(column: &[u16], t: Token, bound: usize) -> usize
+    requires { ⌜ (bound < wordCount) × (now column ≡ rowColumn) ⌝ }
     ensures { λ r. ⌜ r ≡ inside t bound ⌝ }
 {
     match t {
@@ -68,7 +68,7 @@ pub fn bound_inside(columns: &[u8], t: Token, bound: usize) -> usize
         Token::Bound(_) => bound,
         Token::Name(_, _) => bound,
         Token::InstanceOperator(_, _, _) => bound,
-        Token::BuiltIn(code) => bind(columns, code, bound),
+        Token::BuiltIn(code) => bind(rows::row_in(column, code), bound),
         Token::Literal(_) => bound,
         Token::NoToken => bound,
     }
@@ -133,7 +133,7 @@ fn moved(a: Looked, next: usize) -> Looked
 
 // What is known after a token, from what is known before it.
 fn head(
-    columns: &[u8],
+    column: &[u16],
     table: &[u8],
     nexts: &[u8],
     contexts: &[u16],
@@ -144,7 +144,7 @@ fn head(
     t: Token,
     a: Looked,
 ) -> Looked
-    requires { ⌜ Serves (now names) (now contexts) (now columns) (now table) (now nexts) (p .from) (p .end) ⌝ }
+    requires { ⌜ Serves (now names) (now contexts) (now column) (now table) (now nexts) (p .from) (p .end) ⌝ }
     ensures { λ r. ⌜ Heads (now (names .entry)) (now (facts .entry)) (part (now (contexts .entry)) (p .from) (p .end - p .from)) (p .params) bound t a r ⌝ }
 {
     let l = names::look(names, facts, contexts, table, nexts, p.from, p.end, t);
@@ -159,7 +159,7 @@ fn head(
 // The token at the position that is reached, of whatever kind.
 fn any_step(
     s: &[u8],
-    columns: &[u8],
+    column: &[u16],
     table: &[u8],
     nexts: &[u8],
     contexts: &[u16],
@@ -169,33 +169,22 @@ fn any_step(
     bound: usize,
     a: Looked,
 ) -> Step
-    requires { ⌜ Serves (now names) (now contexts) (now columns) (now table) (now nexts) (p .from) (p .end) × (bound < wordCount) ⌝ }
+    requires { ⌜ Serves (now names) (now contexts) (now column) (now table) (now nexts) (p .from) (p .end) × (bound < wordCount) ⌝ }
     ensures { λ r. ⌜ Steps (now (names .entry)) (now (facts .entry)) (part (now (contexts .entry)) (p .from) (p .end - p .from)) (p .params) bound (now (s .entry)) a r ⌝ }
 {
     let at = a.next;
-    let t = token_in(s, columns, at);
+    let t = token_in(s, column, at);
     if tokens::is_token(t) {
-        let k = arguments_in(columns, t);
+        let k = arguments_in(column, t);
         if (Limits::ARITY as u8) < k {
             return no_step(bound, a);
         }
         let b = moved(a, at + tokens::width(t));
-        let looked = head(
-            columns,
-            table,
-            nexts,
-            contexts,
-            names,
-            facts,
-            p,
-            bound,
-            t,
-            b,
-        );
+        let looked = head(column, table, nexts, contexts, names, facts, p, bound, t, b);
         return Step {
             kept: true,
             count: k,
-            inner: bound_inside(columns, t, bound),
+            inner: bound_inside(column, t, bound),
             looked,
         };
     }
@@ -205,7 +194,7 @@ fn any_step(
 // The same, quicker at a parameter and at a built-in.
 fn next_step(
     s: &[u8],
-    columns: &[u8],
+    column: &[u16],
     table: &[u8],
     nexts: &[u8],
     contexts: &[u16],
@@ -215,7 +204,7 @@ fn next_step(
     bound: usize,
     a: Looked,
 ) -> Step
-    requires { ⌜ Serves (now names) (now contexts) (now columns) (now table) (now nexts) (p .from) (p .end) × (bound < wordCount) ⌝ }
+    requires { ⌜ Serves (now names) (now contexts) (now column) (now table) (now nexts) (p .from) (p .end) × (bound < wordCount) ⌝ }
     ensures { λ r. ⌜ Steps (now (names .entry)) (now (facts .entry)) (part (now (contexts .entry)) (p .from) (p .end - p .from)) (p .params) bound (now (s .entry)) a r ⌝ }
 {
     let at = a.next;
@@ -227,38 +216,28 @@ fn next_step(
                 return parameter_step(bound, at + 2, p.params, x, a);
             }
             if tag == 4 {
-                let k = columns::arity(columns, x);
-                if k == rows::Rows::NO_CODE {
+                let r = rows::row_in(column, x);
+                let k = rows::arity_of(r);
+                if k == Rows::NO_CODE {
                     return no_step(bound, a);
                 }
                 return Step {
                     kept: true,
                     count: k,
-                    inner: bind(columns, x, bound),
+                    inner: bind(r, bound),
                     looked: moved(a, at + 2),
                 };
             }
         }
     }
-    any_step(
-        s,
-        columns,
-        table,
-        nexts,
-        contexts,
-        names,
-        facts,
-        p,
-        bound,
-        a,
-    )
+    any_step(s, column, table, nexts, contexts, names, facts, p, bound, a)
 }
 
 // At most three arguments from a position on; in the last of them `within` variables are bound, in the others `around`. Where one is left, its
 // own arguments are what is left.
 fn skim_args(
     s: &[u8],
-    columns: &[u8],
+    column: &[u16],
     table: &[u8],
     nexts: &[u8],
     contexts: &[u16],
@@ -271,7 +250,7 @@ fn skim_args(
     around: usize,
     within: usize,
 ) -> Skimmed
-    requires { ⌜ Serves (now names) (now contexts) (now columns) (now table) (now nexts) (p .from) (p .end) × (around + nesting < wordCount) × (within + nesting < wordCount) × (count ≤ maxArity) ⌝ }
+    requires { ⌜ Serves (now names) (now contexts) (now column) (now table) (now nexts) (p .from) (p .end) × (around + nesting < wordCount) × (within + nesting < wordCount) × (count ≤ maxArity) ⌝ }
     ensures { λ r. ⌜ SkimsAll (now (names .entry)) (now (facts .entry)) (part (now (contexts .entry)) (p .from) (p .end - p .from)) (p .params) around within (several (exprAt nesting (now (s .entry))) at count) (r .kept) (r .looked) ⌝ }
 {
     let mut a = nothing(at);
@@ -284,7 +263,7 @@ fn skim_args(
             return stopped(at);
         }
         let e = under(k, outer, last);
-        let t = next_step(s, columns, table, nexts, contexts, names, facts, p, e, a);
+        let t = next_step(s, column, table, nexts, contexts, names, facts, p, e, a);
         if t.kept {
             a = t.looked;
             if t.count == 0 {
@@ -300,7 +279,7 @@ fn skim_args(
             }
             let b = skim_args(
                 s,
-                columns,
+                column,
                 table,
                 nexts,
                 contexts,
@@ -331,7 +310,7 @@ fn skim_args(
 // The expression at a position that nests at most `nest` deep.
 pub fn skim_expr(
     s: &[u8],
-    columns: &[u8],
+    column: &[u16],
     table: &[u8],
     nexts: &[u8],
     contexts: &[u16],
@@ -342,12 +321,12 @@ pub fn skim_expr(
     p: Place,
     bound: usize,
 ) -> Skimmed
-    requires { ⌜ Serves (now names) (now contexts) (now columns) (now table) (now nexts) (p .from) (p .end) × (bound + nest < wordCount) ⌝ }
+    requires { ⌜ Serves (now names) (now contexts) (now column) (now table) (now nexts) (p .from) (p .end) × (bound + nest < wordCount) ⌝ }
     ensures { λ r. ⌜ Skims (now (names .entry)) (now (facts .entry)) (part (now (contexts .entry)) (p .from) (p .end - p .from)) (p .params) bound (exprAt nest (now (s .entry)) at) (r .kept) (r .looked) ⌝ }
 {
     skim_args(
         s,
-        columns,
+        column,
         table,
         nexts,
         contexts,

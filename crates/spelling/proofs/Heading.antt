@@ -3,19 +3,19 @@ use mathlib.Core.Bool.{Bool, cond, false, not, true}
 use mathlib.Core.List.{List, [], _++_, _∷_, append-assoc, map}
 use mathlib.Core.Path.{_∙_, _≡_, ap, refl, subst, sym}
 use Prim.Native.Nat.{ℕ, zero, suc, _+_, _-_, _*_, _/_, _%_, _<_, _≤_, _^_}
-use native.Mathlib.Nat.{zero-add}
+use native.Mathlib.Nat.{one-mul, zero-add}
 use native.Mathlib.Numerals.{add-one}
 use native.Mathlib.Omega.{arith}
 use borrow.Author.Tests.{le-ltb, lt-ltb}
 use lib.Dec.{eqb}
 use lib.ListN.{getD}
+use lib.Pow.{shl-exact}
 use Rattle.limits.specs.Limits.{maxDefinitions}
 use Rattle.theory.specs.Expand.{paramsFrom}
 use Rattle.theory.specs.Level.{bindsIn, plain}
 use Rattle.theory.specs.Lists.{numbersFrom}
 use Rattle.theory.specs.Term.{Terms, variable}
 use Rattle.theory.specs.Tree.{join}
-use Rattle.forms.proofs.Sets.{one-shl}
 use Rattle.rows.specs.Rows.{binderOf}
 use Rattle.tokens.specs.declared.Token.{Token}
 use Rattle.tokens.specs.declared.Token.the-variants.{BuiltIn, Bound, InstanceOperator, Literal, Name, NoToken, Parameter}
@@ -37,6 +37,9 @@ written-bit all m h = rw h
 
 pub mask-bits : (h : ℕ) → h < 64 → h ≡ maskOf h
 mask-bits h l = rw (lt-ltb h 64 l)
+
+one-shl : (k i : ℕ) → i < k → (1 * 2 ^ i) % 2 ^ k ≡ 2 ^ i
+one-shl k i h = shl-exact 1 i k (omega arith) (omega arith) ∙ one-mul (2 ^ i)
 
 pub mask-one : (h : ℕ) → 64 ≤ h → h < 128 → (1 * 2 ^ (h - 64)) % 2 ^ 64 ≡ maskOf h
 mask-one h l g = rw (le-ltb h 64 l) (one-shl 64 (h - 64) (omega arith))

@@ -26,10 +26,9 @@ use Rattle.laws.proofs.Causes.{clear-field}
 use Rattle.laws.proofs.Origins.{declaration}
 use Rattle.laws.proofs.Within.{within-add}
 use Rattle.fields.specs.declared.Parts.{Parts}
-use Rattle.forms.specs.Forms.{levelAt}
-use Rattle.forms.specs.Tables.{formAt}
+use Rattle.forms.specs.Forms.{formAt, levelAt}
 use Rattle.levels.specs.Tables.{sceneOf, tableWords}
-use Rattle.levels.proofs.Named.{numbers-at}
+use Rattle.levels.proofs.Numbered.{numbers-at}
 use Rattle.texts.specs.Text.{Declarations, noDeclaration}
 use Rattle.text_levels.proofs.OwnWorld.{Shows}
 use Rattle.resolve.proofs.Numbers.{Declares, declarationsOf, declares-one, declares-other}

@@ -18,8 +18,7 @@ use Rattle.rules.specs.Judge.{judge}
 use Rattle.rules.specs.State.{Added, State, cardLevel, definitionAt, here, levelOf, noDefinition, paramsOf, resolve}
 use Rattle.laws.proofs.Within.{within-add}
 use Rattle.fields.specs.declared.Parts.{Parts}
-use Rattle.forms.specs.Forms.{levelAt}
-use Rattle.forms.specs.Tables.{formAt}
+use Rattle.forms.specs.Forms.{formAt, levelAt}
 use Rattle.levels.specs.Tables.{tableWords}
 use Rattle.resolve.proofs.Numbers.{declarationsOf}
 use Rattle.context.specs.Holds.{Holds}

@@ -11,10 +11,9 @@ use Rattle.theory.specs.Lists.{All}
 use Rattle.theory.specs.Term.{Kind, declaredLevel, kindArity, longWay}
 use Rattle.theory.specs.Level.{IsLevel}
 use Rattle.rules.specs.State.{Added, State, cardLevel, meanings, noDefinition, paramsOf}
-use Rattle.forms.specs.Forms.{levelAt}
-use Rattle.forms.specs.Tables.{formAt}
+use Rattle.forms.specs.Forms.{formAt, levelAt}
 use Rattle.levels.specs.Tables.{sceneOf}
-use Rattle.levels.proofs.Named.{numbers-at}
+use Rattle.levels.proofs.Numbered.{numbers-at}
 use Rattle.texts.specs.Text.{Declarations, noDeclaration}
 use Rattle.text_levels.proofs.OwnWorld.{Shows}
 use Rattle.context.specs.Store.{Store}

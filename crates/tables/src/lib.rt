@@ -1,7 +1,6 @@
-// What makes a long walk quick: the columns of the built-in codes in one lent table, tokens read by it, and names found in tables by name. A
-// table of no entries serves too, and costs nothing where the walk is short.
+// What makes a long walk quick: tokens read with the column of rows lent, and names found in tables by name. A table of no entries serves too, and
+// costs nothing where the walk is short.
 pub mod brought;
-pub mod columns;
 pub mod names;
 pub mod token;
 

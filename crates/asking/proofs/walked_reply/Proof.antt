@@ -1,11 +1,11 @@
 -- `walked_reply`: the limits, causes 9 and 10, or the level.
-use Rattle.asking.proofs.Replies.{few-given, reply-walked}
+use Rattle.asking.proofs.Replies.{reply-walked}
 use borrow.Author.Needs.{needs}
 use Rattle.asking.proofs.walked_reply.Statement.{statement}
 use Rattle.asking.proofs.walked_reply.Tie as tie
 
 judge-requires : tie.Need-judge-requires
-judge-requires c κs = search (needs, few-given)
+judge-requires c κs = search needs
 
 reply-of-requires : tie.Need-reply-of-requires
 reply-of-requires c κs = search needs

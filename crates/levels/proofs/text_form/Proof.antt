@@ -1,15 +1,24 @@
--- `text_form`: the walk from nesting 32 on, with no variable bound.
-use Rattle.levels.proofs.Agree.{text-form-level}
-use Rattle.levels.proofs.Walking.{room-start}
+use Rattle.levels.proofs.Walking.{fits-start, text-shown}
 use borrow.Author.Needs.{needs}
 use Rattle.levels.proofs.text_form.Statement.{statement}
 use Rattle.levels.proofs.text_form.Tie as tie
 
-walk-expr-requires : tie.Need-walk-expr-requires
-walk-expr-requires c κs = search (needs, room-start)
+row-column-requires : tie.Need-row-column-requires
+row-column-requires c κs = search needs
+
+cast-t11 : tie.Need-cast-t11
+cast-t11 c = search needs
+
+slice-aggregate-walk-args : tie.Need-slice-aggregate-walk-args
+slice-aggregate-walk-args c = search needs
+
+walk-args-requires : tie.Need-walk-args-requires
+walk-args-requires c κs = search (needs, fits-start)
 
 returns : tie.Need-returns
-returns c = search text-form-level
+returns c = text-shown _ _ _ _ _ (c .walk-args .ensures)
 
 pub text-form-spec : {M : Type 1} → statement M
-text-form-spec = tie.close (tie.spec walk-expr-requires returns)
+text-form-spec =
+    tie.close
+    (tie.spec row-column-requires cast-t11 slice-aggregate-walk-args walk-args-requires returns)

@@ -1,13 +1,12 @@
--- `read_short`: tables of no entries.
+-- `read_short`: tables of no entries, and the column.
 use Rattle.tables.proofs.Bringing.{no-nexts}
 use Rattle.tables.proofs.Naming.{no-table}
-use Rattle.tables.proofs.Columning.{no-columns}
 use borrow.Author.Needs.{needs}
 use Rattle.query_strings.proofs.read_short.Statement.{statement}
 use Rattle.query_strings.proofs.read_short.Tie as tie
 
-array-share-prefix-columns : tie.Need-array-share-prefix-columns
-array-share-prefix-columns c = search needs
+row-column-requires : tie.Need-row-column-requires
+row-column-requires c κs = search needs
 
 slice-aggregate-read-with : tie.Need-slice-aggregate-read-with
 slice-aggregate-read-with c = search needs
@@ -25,7 +24,7 @@ slice-aggregate-read-with-3 : tie.Need-slice-aggregate-read-with-3
 slice-aggregate-read-with-3 c = search needs
 
 read-with-requires : tie.Need-read-with-requires
-read-with-requires c κs = record { rows = search (needs, no-columns); places = search (needs, no-table); brought = search (needs, no-nexts); low = c .before .before .before .before .before .before .before .before .before .before .before .pre }
+read-with-requires c κs = record { rows = search needs; places = search (needs, no-table); brought = search (needs, no-nexts); low = search needs }
 
 same-length : tie.Need-same-length
 same-length c = search needs
@@ -37,7 +36,7 @@ pub read-short-spec : {M : Type 1} → statement M
 read-short-spec =
     tie.close
     (tie.spec
-    array-share-prefix-columns
+    row-column-requires
     slice-aggregate-read-with
     array-share-prefix-table
     slice-aggregate-read-with-2

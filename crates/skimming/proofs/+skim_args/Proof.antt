@@ -32,11 +32,11 @@ abbrev skim-args-calls : ℕ → skim-args-lts.Claims
 skim-args-calls t = (nothing-reads.Asked, nothing-reads.Learnt, stopped-reads.Asked, stopped-reads.Learnt, under-reads.Asked, under-reads.Learnt, next-step-reads.Asked, next-step-reads.Learnt, skim-args-below t, skim-args.Post, both-reads.Asked, both-reads.Learnt)
 
 abbrev skim-args-Inv-loop : skim-args-lts.InvT-loop
-skim-args-Inv-loop s columns table nexts contexts names facts at count nesting p around within a₀ k₀ nest₀ outer₀ last₀ a k nest outer last =
+skim-args-Inv-loop s column table nexts contexts names facts at count nesting p around within a₀ k₀ nest₀ outer₀ last₀ a k nest outer last =
     Going names facts (part contexts (p .from) (p .end - p .from)) (p .params) s at count nesting around within a k nest outer last
 
 abbrev skim-args-μ-loop : skim-args-lts.MeasureT-loop
-skim-args-μ-loop s columns table nexts contexts names facts at count nesting p around within a₀ k₀ nest₀ outer₀ last₀ a k nest outer last =
+skim-args-μ-loop s column table nexts contexts names facts at count nesting p around within a₀ k₀ nest₀ outer₀ last₀ a k nest outer last =
     nest * 4 + k
 
 skim-args-nothing-requires : (t : ℕ) → skim-args-lts.Need-nothing-requires (skim-args-calls t) (skim-args-at t) skim-args.Post skim-args-Inv-loop skim-args-μ-loop

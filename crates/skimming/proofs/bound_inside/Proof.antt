@@ -19,6 +19,9 @@ enum-told-4 c = search needs
 enum-known-t : tie.Need-enum-known-t
 enum-known-t c = search needs
 
+row-in-requires : tie.Need-row-in-requires
+row-in-requires c κs = search needs
+
 bind-requires : tie.Need-bind-requires
 bind-requires c κs = search needs
 
@@ -58,6 +61,7 @@ bound-inside-spec =
     enum-told-3
     enum-told-4
     enum-known-t
+    row-in-requires
     bind-requires
     enum-told-5
     enum-told-6

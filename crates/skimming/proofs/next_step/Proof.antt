@@ -25,8 +25,11 @@ parameter-step-requires c κs = search needs
 returns : tie.Need-returns
 returns c = search step-parameter
 
-arity-requires : tie.Need-arity-requires
-arity-requires c κs = search needs
+row-in-requires : tie.Need-row-in-requires
+row-in-requires c κs = search needs
+
+arity-of-requires : tie.Need-arity-of-requires
+arity-of-requires c κs = search needs
 
 no-step-requires : tie.Need-no-step-requires
 no-step-requires c κs = search needs
@@ -63,7 +66,8 @@ next-step-spec =
     add-parameter-step
     parameter-step-requires
     returns
-    arity-requires
+    row-in-requires
+    arity-of-requires
     no-step-requires
     returns-2
     bind-requires

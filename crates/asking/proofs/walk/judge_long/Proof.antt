@@ -1,6 +1,5 @@
 -- `walk::judge_long`: the tables filled.
 use Rattle.tables.proofs.Naming.{zeroed}
-use Rattle.asking.proofs.Serving.{ready-tabled}
 use borrow.Author.Needs.{needs}
 use Rattle.asking.proofs.walk.judge_long.Statement.{statement}
 use Rattle.asking.proofs.walk.judge_long.Tie as tie
@@ -9,19 +8,13 @@ slice-aggregate-fill : tie.Need-slice-aggregate-fill
 slice-aggregate-fill c = search needs
 
 fill-requires : tie.Need-fill-requires
-fill-requires c κs = search needs
+fill-requires c κs = (search needs, zeroed 131072, search needs, search needs)
 
 slice-aggregate-fill-2 : tie.Need-slice-aggregate-fill-2
 slice-aggregate-fill-2 c = search needs
 
 fill-requires-2 : tie.Need-fill-requires-2
-fill-requires-2 c κs = (search needs, zeroed 131072, search needs, search needs)
-
-slice-aggregate-fill-3 : tie.Need-slice-aggregate-fill-3
-slice-aggregate-fill-3 c = search needs
-
-fill-requires-3 : tie.Need-fill-requires-3
-fill-requires-3 c κs = search needs
+fill-requires-2 c κs = search needs
 
 slice-aggregate-judge-with : tie.Need-slice-aggregate-judge-with
 slice-aggregate-judge-with c = search needs
@@ -29,11 +22,8 @@ slice-aggregate-judge-with c = search needs
 slice-aggregate-judge-with-2 : tie.Need-slice-aggregate-judge-with-2
 slice-aggregate-judge-with-2 c = search needs
 
-slice-aggregate-judge-with-3 : tie.Need-slice-aggregate-judge-with-3
-slice-aggregate-judge-with-3 c = search needs
-
 judge-with-requires : tie.Need-judge-with-requires
-judge-with-requires c κs = search (needs, ready-tabled)
+judge-with-requires c κs = search needs
 
 returns : tie.Need-returns
 returns c = search needs
@@ -46,10 +36,7 @@ judge-long-spec =
     fill-requires
     slice-aggregate-fill-2
     fill-requires-2
-    slice-aggregate-fill-3
-    fill-requires-3
     slice-aggregate-judge-with
     slice-aggregate-judge-with-2
-    slice-aggregate-judge-with-3
     judge-with-requires
     returns)

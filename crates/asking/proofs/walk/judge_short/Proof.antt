@@ -1,5 +1,6 @@
 -- `walk::judge_short`: tables of no entries.
-use Rattle.asking.proofs.Serving.{ready-untabled}
+use Rattle.tables.proofs.Bringing.{no-nexts}
+use Rattle.tables.proofs.Naming.{no-table}
 use borrow.Author.Needs.{needs}
 use Rattle.asking.proofs.walk.judge_short.Statement.{statement}
 use Rattle.asking.proofs.walk.judge_short.Tie as tie
@@ -10,11 +11,8 @@ slice-aggregate-judge-with c = search needs
 slice-aggregate-judge-with-2 : tie.Need-slice-aggregate-judge-with-2
 slice-aggregate-judge-with-2 c = search needs
 
-slice-aggregate-judge-with-3 : tie.Need-slice-aggregate-judge-with-3
-slice-aggregate-judge-with-3 c = search needs
-
 judge-with-requires : tie.Need-judge-with-requires
-judge-with-requires c κs = search (needs, ready-untabled)
+judge-with-requires c κs = search (needs, no-nexts, no-table)
 
 returns : tie.Need-returns
 returns c = search needs
@@ -22,9 +20,4 @@ returns c = search needs
 pub judge-short-spec : {M : Type 1} → statement M
 judge-short-spec =
     tie.close
-    (tie.spec
-    slice-aggregate-judge-with
-    slice-aggregate-judge-with-2
-    slice-aggregate-judge-with-3
-    judge-with-requires
-    returns)
+    (tie.spec slice-aggregate-judge-with slice-aggregate-judge-with-2 judge-with-requires returns)

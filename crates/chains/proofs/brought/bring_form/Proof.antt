@@ -8,8 +8,11 @@ use Rattle.chains.proofs.brought.bring_form.Tie as tie
 world-form-requires : tie.Need-world-form-requires
 world-form-requires c κs = search needs
 
-store-requires : tie.Need-store-requires
-store-requires c κs = search needs
+mul-words : tie.Need-mul-words
+mul-words c = search needs
+
+slice-write-words : tie.Need-slice-write-words
+slice-write-words c = search needs
 
 level-at-zero-requires : tie.Need-level-at-zero-requires
 level-at-zero-requires c κs = search needs
@@ -18,12 +21,9 @@ same-length : tie.Need-same-length
 same-length c = search needs
 
 returns : tie.Need-returns
-returns c =
-    form-stored _ _ _ _ _ _ _ _ _ _ _ (c .before .before .before .before .before .world-form .ensures)
-    (c .before .before .before .store .ensures .0) (c .before .before .before .store .ensures .1)
-    (search needs) (search needs) (c .level-at-zero .ensures) refl
+returns c = form-stored _ _ _ _ _ _ _ _ _ _ (search needs) (search needs) (search needs) (c .level-at-zero .ensures) refl
 
 pub bring-form-spec : {M : Type 1} → statement M
 bring-form-spec =
     tie.close
-    (tie.spec world-form-requires store-requires level-at-zero-requires same-length returns)
+    (tie.spec world-form-requires mul-words slice-write-words level-at-zero-requires same-length returns)

@@ -1,6 +1,6 @@
 -- `copying`: the first j numbers are copied.
 use native.Mathlib.Omega.{arith}
-use Prim.Native.Nat.{_+_, _-_, _*_}
+use Prim.Native.Nat.{_+_, _-_}
 use Rattle.limits.specs.Limits.{maxDeclarations, maxDefinitions}
 use Rattle.chains.proofs.Copies.{CopiedTo, copied-start, copied-turn, copied-whole}
 use borrow.Author.Needs.{needs}
@@ -11,16 +11,13 @@ abbrev Inv-loop : tie.InvT-loop
 Inv-loop words inner₀ j₀ inner j = CopiedTo words inner j
 
 abbrev μ-loop : tie.MeasureT-loop
-μ-loop words inner₀ j₀ inner j = 4 * (maxDefinitions + maxDeclarations) - j
+μ-loop words inner₀ j₀ inner j = maxDefinitions + maxDeclarations - j
 
 loop-holds : tie.Need-loop-holds Inv-loop μ-loop
 loop-holds c = search (needs, copied-start)
 
 add-loop : tie.Need-add-loop Inv-loop μ-loop
 add-loop c = search needs
-
-mul-loop : tie.Need-mul-loop Inv-loop μ-loop
-mul-loop c = search needs
 
 mul-x : tie.Need-mul-x Inv-loop μ-loop
 mul-x c = search needs
@@ -57,7 +54,6 @@ copy-forms-spec =
     μ-loop
     loop-holds
     add-loop
-    mul-loop
     mul-x
     shared-slice-read-x
     mul-inner

@@ -1,30 +1,26 @@
--- `implied::implied_form`: the form of a name, over parameters in a row.
+-- `implied::implied_form`: the labels of a name's form, at parameters in a row.
 use Rattle.entering.proofs.Implying.{implied-gives}
 use borrow.Author.Needs.{needs}
 use Rattle.entering.proofs.implied.implied_form.Statement.{statement}
 use Rattle.entering.proofs.implied.implied_form.Tie as tie
 
-add-own-params : tie.Need-add-own-params
-add-own-params c = search needs
+place-of-requires : tie.Need-place-of-requires
+place-of-requires c κs = search needs
 
-own-params-requires : tie.Need-own-params-requires
-own-params-requires c κs = search needs
+form-at-requires : tie.Need-form-at-requires
+form-at-requires c κs = search needs
 
-slice-aggregate-name-form : tie.Need-slice-aggregate-name-form
-slice-aggregate-name-form c = search needs
+add-params-requires : tie.Need-add-params-requires
+add-params-requires c κs = search needs
 
-name-form-requires : tie.Need-name-form-requires
-name-form-requires c κs = search needs
+add-add-params : tie.Need-add-add-params
+add-add-params c = search needs
+
+add-params-requires-2 : tie.Need-add-params-requires-2
+add-params-requires-2 c κs = search needs
 
 returns : tie.Need-returns
-returns c = search implied-gives
+returns c = search (needs, implied-gives)
 
 pub implied-form-spec : {M : Type 1} → statement M
-implied-form-spec =
-    tie.close
-    (tie.spec
-    add-own-params
-    own-params-requires
-    slice-aggregate-name-form
-    name-form-requires
-    returns)
+implied-form-spec = tie.close (tie.spec place-of-requires form-at-requires add-params-requires add-add-params add-params-requires-2 returns)

@@ -1,5 +1,5 @@
 -- `replacing::replace`: the first j words are copied.
-use Prim.Native.Nat.{_-_, _*_, _≤_}
+use Prim.Native.Nat.{_-_}
 use Rattle.limits.specs.Limits.{maxDeclarations}
 use Rattle.entering.proofs.Copying.{Copied, copied-start, copied-turn, copied-whole}
 use borrow.Author.Needs.{needs}
@@ -10,22 +10,16 @@ abbrev Inv-loop : tie.InvT-loop
 Inv-loop words₀ next j₀ words j = Copied next words₀ words j
 
 abbrev μ-loop : tie.MeasureT-loop
-μ-loop words₀ next j₀ words j = 4 * maxDeclarations - j
+μ-loop words₀ next j₀ words j = maxDeclarations - j
 
 loop-holds : tie.Need-loop-holds Inv-loop μ-loop
 loop-holds c = search copied-start
 
-mul-loop : tie.Need-mul-loop Inv-loop μ-loop
-mul-loop c = search needs
-
-mul-x : tie.Need-mul-x Inv-loop μ-loop
-mul-x c = search needs
-
-shared-slice-read-x : tie.Need-shared-slice-read-x Inv-loop μ-loop
-shared-slice-read-x c = search needs
-
 mul-words : tie.Need-mul-words Inv-loop μ-loop
 mul-words c = search needs
+
+shared-slice-read-words : tie.Need-shared-slice-read-words Inv-loop μ-loop
+shared-slice-read-words c = search needs
 
 add-words : tie.Need-add-words Inv-loop μ-loop
 add-words c = search needs
@@ -43,7 +37,7 @@ loop-less : tie.Need-loop-less Inv-loop μ-loop
 loop-less c = search needs
 
 loop-again : tie.Need-loop-again Inv-loop μ-loop
-loop-again c = search copied-turn
+loop-again c = search (needs, copied-turn)
 
 same-length : tie.Need-same-length Inv-loop μ-loop
 same-length c = search needs
@@ -58,10 +52,8 @@ replace-spec =
     Inv-loop
     μ-loop
     loop-holds
-    mul-loop
-    mul-x
-    shared-slice-read-x
     mul-words
+    shared-slice-read-words
     add-words
     mul-words-2
     slice-write-words

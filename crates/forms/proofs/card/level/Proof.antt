@@ -1,39 +1,66 @@
--- `card::level`: what each call ensures, put together.
-use mathlib.Core.Path.{sym, _∙_}
-use Rattle.forms.proofs.Marks.{level-true, level-false}
+use Prim.Native.Nat.{_-_}
+use lib.ListN.{length}
+use Rattle.forms.proofs.Reading.{Reads, reads-start, reads-turn, reads-end}
 use borrow.Author.Needs.{needs}
 use Rattle.forms.proofs.card.level.Statement.{statement}
 use Rattle.forms.proofs.card.level.Tie as tie
+use Rattle.forms.proofs.card.bits_of.Reads as bits-of-reads
+use Rattle.forms.proofs.card.level_of.Reads as level-of-reads
+use Rattle.forms.proofs.level_under.Reads as level-under-reads
 
-levels-above-requires : tie.Need-levels-above-requires
-levels-above-requires c κs = search needs
+abbrev Inv-loop : tie.InvT-loop
+Inv-loop form v b₀ left₀ i₀ b left i = Reads form v b left i
 
-passes-requires : tie.Need-passes-requires
-passes-requires c κs = search needs
+abbrev μ-loop : tie.MeasureT-loop
+μ-loop form v b₀ left₀ i₀ b left i = length v - i
 
-highest-in-requires : tie.Need-highest-in-requires
-highest-in-requires c κs = search needs
+cast-b : tie.Need-cast-b Inv-loop μ-loop
+cast-b c = search needs
 
-larger-requires : tie.Need-larger-requires
-larger-requires c κs = search needs
+loop-holds : tie.Need-loop-holds Inv-loop μ-loop
+loop-holds c = search (needs, reads-start)
 
-capped-requires : tie.Need-capped-requires
-capped-requires c κs = search needs
+shared-slice-read-bits-of : tie.Need-shared-slice-read-bits-of Inv-loop μ-loop
+shared-slice-read-bits-of c = search needs
 
-returns : tie.Need-returns
-returns c = level-true (c .before .before .before .before .before .before .before .args .f) (c .before .before .before .before .before .before .before .args .v .now) _ _ _ (sym (c .before .before .before .before .passes .ensures _ (c .before .before .before .before .before .levels-above .ensures)) ∙ c .before .before .before .if1 .taken) (c .before .before .highest-in .ensures _ (c .before .before .before .before .before .levels-above .ensures)) (c .before .larger .ensures) (c .capped .ensures)
+bits-of-requires : tie.Need-bits-of-requires Inv-loop μ-loop
+bits-of-requires c κs = search needs
 
-returns-2 : tie.Need-returns-2
-returns-2 c = level-false (c .before .before .before .before .args .f) (c .before .before .before .before .args .v .now) (sym (c .before .passes .ensures _ (c .before .before .levels-above .ensures)) ∙ c .if1 .left)
+cast-level-under : tie.Need-cast-level-under Inv-loop μ-loop
+cast-level-under c = search needs
+
+level-under-requires : tie.Need-level-under-requires Inv-loop μ-loop
+level-under-requires c κs = search needs
+
+add-i : tie.Need-add-i Inv-loop μ-loop
+add-i c = search needs
+
+loop-less : tie.Need-loop-less Inv-loop μ-loop
+loop-less c = search needs
+
+loop-again : tie.Need-loop-again Inv-loop μ-loop
+loop-again c = search (needs, reads-turn)
+
+level-of-requires : tie.Need-level-of-requires Inv-loop μ-loop
+level-of-requires c κs = search needs
+
+returns : tie.Need-returns Inv-loop μ-loop
+returns c = search (needs, reads-end)
 
 pub level-spec : {M : Type 1} → statement M
 level-spec =
     tie.close
     (tie.spec
-    levels-above-requires
-    passes-requires
-    highest-in-requires
-    larger-requires
-    capped-requires
-    returns
-    returns-2)
+    Inv-loop
+    μ-loop
+    cast-b
+    loop-holds
+    shared-slice-read-bits-of
+    bits-of-requires
+    cast-level-under
+    level-under-requires
+    add-i
+    loop-less
+    loop-again
+    level-of-requires
+    returns)

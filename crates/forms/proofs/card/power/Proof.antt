@@ -2,7 +2,7 @@
 use mathlib.Core.Path.{_≡_, refl, ap, _∙_}
 use Prim.Native.Nat.{ℕ, _-_, _*_, _^_, _≤_}
 use native.Mathlib.Omega.{arith}
-use Rattle.forms.proofs.Turns.{power-turn, power-fits}
+use Rattle.forms.proofs.Filling.{power-turn, power-fits}
 use Rattle.limits.specs.Limits.{levelCount}
 use Rattle.forms.proofs.card.power.Statement.{statement}
 use Rattle.forms.proofs.card.power.Tie as tie

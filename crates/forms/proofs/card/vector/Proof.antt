@@ -7,12 +7,12 @@ use native.Mathlib.Omega.{arith}
 use lib.ListN.{take, length, length-set}
 use Rattle.limits.specs.Limits.{levelCount}
 use Rattle.theory.specs.Card.{levelsOf}
-use Rattle.forms.proofs.Turns.{vector-turn}
+use Rattle.forms.proofs.Filling.{vector-turn}
 use Rattle.forms.proofs.card.vector.Statement.{statement}
 use Rattle.forms.proofs.card.vector.Tie as tie
 
 abbrev Inv-loop : tie.InvT-loop
-Inv-loop n k r₀ left₀ i₀ r left i = (i ≤ n) × (length r ≡ 6) × (take i r ++ levelsOf (n - i) left ≡ levelsOf n k)
+Inv-loop n k r₀ left₀ i₀ r left i = (i ≤ n) × (length r ≡ 3) × (take i r ++ levelsOf (n - i) left ≡ levelsOf n k)
 
 abbrev μ-loop : tie.MeasureT-loop
 μ-loop n k r₀ left₀ i₀ r left i = n - i

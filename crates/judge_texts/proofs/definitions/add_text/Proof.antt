@@ -12,8 +12,11 @@ cast-add-definition-2 c = search needs
 add-definition-requires : tie.Need-add-definition-requires
 add-definition-requires c κs = (search needs, search needs, search needs, search needs, search needs, search needs, search needs, search needs, search room-context, search room-order)
 
-store-requires : tie.Need-store-requires
-store-requires c κs = search needs
+mul-words : tie.Need-mul-words
+mul-words c = search needs
+
+slice-write-words : tie.Need-slice-write-words
+slice-write-words c = search needs
 
 same-length : tie.Need-same-length
 same-length c = search needs
@@ -38,7 +41,6 @@ returns c = (
   search judged-counts,
   record { names = search needs; facts = search needs; contexts = search needs; orders = search needs; heads = search needs },
   search needs,
-  search needs,
 )
 
 pub add-text-spec : {M : Type 1} → statement M
@@ -48,7 +50,8 @@ add-text-spec =
     cast-add-definition
     cast-add-definition-2
     add-definition-requires
-    store-requires
+    mul-words
+    slice-write-words
     same-length
     same-length-2
     same-length-3

@@ -1,4 +1,4 @@
-use Rattle.judge_texts.proofs.Answers.{define-few, define-walked, form-fits}
+use Rattle.judge_texts.proofs.Answers.{define-few, define-walked}
 use borrow.Author.Needs.{needs}
 use Rattle.judge_texts.proofs.definitions.define_text.Statement.{statement}
 use Rattle.judge_texts.proofs.definitions.define_text.Tie as tie
@@ -7,7 +7,7 @@ read-text-requires : tie.Need-read-text-requires
 read-text-requires c κs = search needs
 
 finish-definition-requires : tie.Need-finish-definition-requires
-finish-definition-requires c κs = (search needs, search define-few, search needs, search needs, search form-fits)
+finish-definition-requires c κs = (search needs, search define-few, search needs, search needs)
 
 same-length : tie.Need-same-length
 same-length c = search needs

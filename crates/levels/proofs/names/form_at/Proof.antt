@@ -1,23 +1,19 @@
--- `names::form_at`: the form that stands in the table, or level 0 past its end.
-use Rattle.levels.proofs.Named.{loaded, past-table}
+use Rattle.tokens.proofs.Places.{past}
 use borrow.Author.Needs.{needs}
 use Rattle.levels.proofs.names.form_at.Statement.{statement}
 use Rattle.levels.proofs.names.form_at.Tie as tie
 
-add-if1 : tie.Need-add-if1
-add-if1 c = search needs
+mul-result : tie.Need-mul-result
+mul-result c = search needs
 
-load-requires : tie.Need-load-requires
-load-requires c κs = search needs
-
-leaf-requires : tie.Need-leaf-requires
-leaf-requires c κs = search needs
+shared-slice-read-result : tie.Need-shared-slice-read-result
+shared-slice-read-result c = search needs
 
 returns : tie.Need-returns
-returns c = search loaded
+returns c = search needs
 
 returns-2 : tie.Need-returns-2
-returns-2 c = search past-table
+returns-2 c = search past
 
 pub form-at-spec : {M : Type 1} → statement M
-form-at-spec = tie.close (tie.spec add-if1 load-requires leaf-requires returns returns-2)
+form-at-spec = tie.close (tie.spec mul-result shared-slice-read-result returns returns-2)

@@ -1,7 +1,7 @@
 -- `names::identity`: the first i numbers stand.
 use Prim.Native.Nat.{_-_}
 use Rattle.limits.specs.Limits.{maxDefinitions}
-use Rattle.levels.proofs.Named.{Numbered, numbered-start, numbered-turn, numbered-length, numbered-inside, numbered-whole}
+use Rattle.levels.proofs.Numbered.{Numbered, numbered-start, numbered-turn, numbered-length, numbered-inside, numbered-whole}
 use borrow.Author.Needs.{needs}
 use Rattle.levels.proofs.names.identity.Statement.{statement}
 use Rattle.levels.proofs.names.identity.Tie as tie

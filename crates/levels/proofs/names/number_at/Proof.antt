@@ -1,4 +1,3 @@
--- `names::number_at`: past the end there is 0.
 use Rattle.tokens.proofs.Places.{past}
 use borrow.Author.Needs.{needs}
 use Rattle.levels.proofs.names.number_at.Statement.{statement}

@@ -1,8 +1,17 @@
 -- `token::arguments_in`: as written, or as the row has it.
-use Rattle.tables.proofs.Columning.{arity-is}
+use mathlib.Core.Path.{_≡_}
+use Prim.Native.Nat.{ℕ}
+use Rattle.rows.specs.Numbers.{arityIn, rowNumber}
+use Rattle.rows.proofs.Numbers.{row-arity}
+use Rattle.tokens.specs.Token.{argumentsOf}
+use Rattle.tokens.specs.declared.Token.{Token}
+use Rattle.tokens.specs.declared.Token.the-variants.{BuiltIn}
 use borrow.Author.Needs.{needs}
 use Rattle.tables.proofs.token.arguments_in.Statement.{statement}
 use Rattle.tables.proofs.token.arguments_in.Tie as tie
+
+arity-is : (t : Token) (c h k : ℕ) → t ≡ BuiltIn c → h ≡ rowNumber c → k ≡ arityIn h → k ≡ argumentsOf t
+arity-is t c h k p e q = rw p (row-arity c h e k q)
 
 enum-told : tie.Need-enum-told
 enum-told c = search needs
@@ -19,8 +28,11 @@ enum-known-t-2 c = search needs
 enum-known-t-3 : tie.Need-enum-known-t-3
 enum-known-t-3 c = search needs
 
-arity-requires : tie.Need-arity-requires
-arity-requires c κs = search needs
+row-in-requires : tie.Need-row-in-requires
+row-in-requires c κs = search needs
+
+arity-of-requires : tie.Need-arity-of-requires
+arity-of-requires c κs = search needs
 
 enum-told-3 : tie.Need-enum-told-3
 enum-told-3 c = search needs
@@ -58,7 +70,8 @@ arguments-in-spec =
     enum-known-t
     enum-known-t-2
     enum-known-t-3
-    arity-requires
+    row-in-requires
+    arity-of-requires
     enum-told-3
     enum-told-4
     returns
