@@ -11,6 +11,6 @@ Primed == c'                    \* 2
 Enabled == ENABLED x'           \* 1
 F(p) == 0
 Dropped == F((x')')             \* 0: the argument is gone, faults and all
-G(p, q) == [](p /\ q)           \* 3 at (2, 3), 4 at (2, 0)
+G(p, q) == [](p /\ q)           \* 4 at (2, 3) and at (2, 0)
 Hidden == \EE z : z             \* 3
 ====

@@ -1,4 +1,5 @@
-(* Module N of paper 01: D has level 3, and 4 once K takes its first argument. Refused with 15. *)
+(* Module N of paper 01. Since L5 of paper 02 an action and a temporal formula do not mix: D is 4. *)
+(* Refused with 12 at D; the instance is not looked at.                                             *)
 
 ---- MODULE N ----
 CONSTANT K(_, _)

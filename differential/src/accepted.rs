@@ -522,7 +522,7 @@ impl<'a> Grower<'a> {
         Field::Definition(self.name(), parameters, body)
     }
 
-    /// A definition that takes its parameters at some levels together only.
+    /// A definition that takes its parameters at some levels only, or not together.
     fn demand(&mut self) -> Field {
         let parameters = self.random.pick(&[2, 2, 3]);
         let index = |random: &mut Random| syntax::p(random.below(parameters as usize) as u8);
@@ -536,10 +536,12 @@ impl<'a> Grower<'a> {
             };
             inner = syntax::and(inner, other);
         }
-        let body = match self.random.below(4) {
+        let body = match self.random.below(6) {
             0 => syntax::op(119, &[inner]),
             1 => syntax::op(122, &[inner, index(self.random)]),
             2 => syntax::op(140, &[inner]),
+            3 => syntax::and(syntax::op(113, &[inner]), index(self.random)),
+            4 => inner,
             _ => always(inner),
         };
         Field::Definition(self.name(), parameters, body)
@@ -552,8 +554,8 @@ impl<'a> Grower<'a> {
         Field::Definition(self.name(), 0, body)
     }
 
-    /// A temporal operator over an operator with arguments of several levels: whether it is
-    /// level-correct in an instance hangs on the operator's substitute.
+    /// An operator with arguments of several levels, most often below another operator: what becomes of
+    /// it in an instance hangs on the operator's substitute.
     fn delicate(&mut self) -> Field {
         let scope = self.model.scope().expect("inside a module");
         let wide: Vec<Operator> = scope
@@ -577,7 +579,13 @@ impl<'a> Grower<'a> {
                 }
             })
             .collect();
-        let body = always(Expr::Name(operator.name, arguments));
+        let inner = Expr::Name(operator.name, arguments);
+        let body = match self.random.below(4) {
+            0 => inner,
+            1 => syntax::op(113, &[inner]),
+            2 => syntax::op(115, &[inner, lit(0)]),
+            _ => always(inner),
+        };
         Field::Definition(self.name(), parameters, body)
     }
 

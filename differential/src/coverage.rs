@@ -4,6 +4,8 @@ use crate::cases::{Call, Case, Outcome};
 use crate::checker::Offer;
 use crate::faults;
 use crate::limits;
+use crate::mixed_substitutes;
+use crate::mixing;
 use crate::model::{Meaning, Model, Module, Operator, Scope};
 use crate::rows;
 use crate::substitutes;
@@ -19,8 +21,16 @@ pub enum Section {
     Fault,
     Limit,
     Substitute,
+    Mixing,
+    MixedSubstitutes,
     Query,
 }
+
+/// The causes that there are. Since L5 no file is known that shows 15: a run that does fails.
+const CAUSES: [u32; 19] = [
+    1, 2, 3, 4, 5, 6, 7, 8, 9, 10, 11, 12, 13, 14, 15, 16, 17, 18, 21,
+];
+const UNSEEN: u32 = 15;
 
 /// Counts of what occurred.
 #[derive(Clone, Debug, Default, PartialEq, Eq)]
@@ -32,7 +42,7 @@ pub struct Coverage {
     pub refused: u64,
 }
 
-const CONSTRUCTS: [&str; 83] = [
+const CONSTRUCTS: [&str; 84] = [
     "module",
     "module with nothing",
     "EXTENDS",
@@ -108,7 +118,8 @@ const CONSTRUCTS: [&str; 83] = [
     "definition at 1",
     "definition at 2",
     "definition at 3",
-    "card with a demand on kinds",
+    "card that mixes at (2, 3)",
+    "card that takes (2, 3)",
     "card unlike its source's",
     "file under 64 bytes",
     "file under 1,024 bytes",
@@ -118,7 +129,7 @@ const CONSTRUCTS: [&str; 83] = [
     "256 definitions",
 ];
 
-const QUERIES: [&str; 48] = [
+const QUERIES: [&str; 50] = [
     "check",
     "card memory under 32,000",
     "card memory of 32,000",
@@ -138,6 +149,8 @@ const QUERIES: [&str; 48] = [
     "level given above 4",
     "level given above 4 among four",
     "level given 4",
+    "level given 2 and 3 replies 4",
+    "level given 2 and 3 replies less",
     "level refused 3",
     "level refused 5",
     "level refused 9",
@@ -172,18 +185,23 @@ const QUERIES: [&str; 48] = [
 /// Whatever has to occur in a run of what is asked.
 pub fn required(asked: Offer) -> Vec<(Section, String)> {
     let mut all = Vec::new();
-    let last = match asked {
-        Offer::Checks => 16,
-        Offer::Queries => 17,
-        Offer::Expansions => 18,
-    };
-    all.extend((1..=last).map(|cause| (Section::Cause, cause.to_string())));
+    let causes = CAUSES.iter().filter(|&&cause| match cause {
+        UNSEEN => false,
+        17 => asked >= Offer::Queries,
+        18 => asked >= Offer::Expansions,
+        _ => true,
+    });
+    all.extend(causes.map(|cause| (Section::Cause, cause.to_string())));
     all.extend(CONSTRUCTS.map(|what| (Section::Construct, what.to_string())));
     let plans = faults::plans();
     all.extend(plans.iter().map(|plan| (Section::Fault, plan.label())));
     all.extend(limits::labels().into_iter().map(|l| (Section::Limit, l)));
     let substitutes = substitutes::labels().into_iter();
     all.extend(substitutes.map(|label| (Section::Substitute, label)));
+    let mixing = mixing::labels().into_iter();
+    all.extend(mixing.map(|label| (Section::Mixing, label)));
+    let substitutes = mixed_substitutes::labels().into_iter();
+    all.extend(substitutes.map(|label| (Section::MixedSubstitutes, label)));
     if asked > Offer::Checks {
         let kinds = QUERIES.iter().filter(|what| {
             let expansion = what.starts_with("expand");
@@ -204,13 +222,17 @@ impl Coverage {
         found.copied().unwrap_or(0)
     }
 
-    /// What has to occur and did not.
+    /// What has to occur and did not, and cause 15 if it did.
     pub fn missing(&self, asked: Offer) -> Vec<String> {
-        required(asked)
-            .into_iter()
+        let required = required(asked).into_iter();
+        let mut missing: Vec<String> = required
             .filter(|key| !self.counts.contains_key(key))
             .map(|(section, what)| format!("{section:?}: {what}"))
-            .collect()
+            .collect();
+        if self.get(Section::Cause, &UNSEEN.to_string()) > 0 {
+            missing.push(format!("Cause: a file without {UNSEEN}"));
+        }
+        missing
     }
 
     fn construct(&mut self, what: &str) {
@@ -265,6 +287,12 @@ impl Coverage {
                 }
                 if levels.contains(&4) {
                     self.query("level given 4");
+                }
+                if rows::mixed(levels) && !levels.contains(&4) && refusal.is_none() {
+                    match reply {
+                        4 => self.query("level given 2 and 3 replies 4"),
+                        _ => self.query("level given 2 and 3 replies less"),
+                    }
                 }
                 match refusal {
                     Some((cause, _)) => self.query(&format!("level refused {cause}")),
@@ -372,9 +400,13 @@ impl Coverage {
     fn card(&mut self, model: &Model, number: usize) {
         let card = model.card(number);
         self.construct(&format!("definition at {}", card[0].min(3)));
-        // Lawful beside a temporal argument, but not beside a constant.
-        if card[2 + 5 * 3] == 3 && card[2] == 4 {
-            self.construct("card with a demand on kinds");
+        // What the first two parameters give at 2 and 3: 4 though each alone is taken, or not.
+        let (action, temporal, both) = (card[2], card[5 * 3], card[2 + 5 * 3]);
+        if model.definitions[number].parameters > 1 && action < 4 && temporal < 4 {
+            self.construct(match both {
+                4 => "card that mixes at (2, 3)",
+                _ => "card that takes (2, 3)",
+            });
         }
     }
 
@@ -625,9 +657,8 @@ impl Display for Coverage {
             "files: {} accepted, {} refused",
             self.accepted, self.refused
         )?;
-        let causes: Vec<String> = (1..=18)
-            .map(|cause: u32| format!("{cause}: {}", self.get(Section::Cause, &cause.to_string())))
-            .collect();
+        let count = |cause: u32| self.get(Section::Cause, &cause.to_string());
+        let causes = CAUSES.map(|cause| format!("{cause}: {}", count(cause)));
         writeln!(f, "refusals by cause: {}", causes.join(", "))?;
         for section in [Section::Construct, Section::Query] {
             let counts = self.section(section);
@@ -636,7 +667,13 @@ impl Display for Coverage {
                 writeln!(f, "  {count:8} {what}")?;
             }
         }
-        for section in [Section::Fault, Section::Limit, Section::Substitute] {
+        for section in [
+            Section::Fault,
+            Section::Limit,
+            Section::Substitute,
+            Section::Mixing,
+            Section::MixedSubstitutes,
+        ] {
             let counts = self.section(section);
             let fewest = counts.iter().map(|(_, count)| count).min().unwrap_or(&0);
             writeln!(

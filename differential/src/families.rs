@@ -183,16 +183,16 @@ pub fn realistic(size: usize) -> Vec<u8> {
 }
 
 fn demands(index: usize) -> Expr {
-    // [] of a set of parameters, beside a transition or not.
+    // [] of a set of parameters, or of ENABLED of them: neither takes every level.
     let set = index % 8;
-    let mut inner = (0..3)
+    let inner = (0..3)
         .filter(|i| set >> i & 1 == 1)
         .map(p)
         .fold(lit(0), and);
-    if index >> 3 & 1 == 1 {
-        inner = and(inner, and(always(lit(0)), prime(lit(0))));
-    }
-    always(inner)
+    always(match index >> 3 & 1 {
+        0 => inner,
+        _ => op(113, &[inner]),
+    })
 }
 
 /// A tower: definition 1 is the bottom, each other one a step over the one before.

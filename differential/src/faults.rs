@@ -21,14 +21,17 @@ pub enum Kind {
     Theorem,
 }
 
-/// For each kind of field the causes that can hold of it.
+/// The causes that a field can have, 15 left out: since L5 no file is known that shows it.
+pub const OF_FIELDS: [u32; 14] = [3, 4, 5, 6, 7, 8, 9, 10, 11, 12, 13, 14, 16, 21];
+
+/// For each kind of field the causes that can hold of it, in the order in which they are judged.
 pub const KINDS: [(Kind, &[u32]); 9] = [
     (Kind::Module, &[3, 4, 5, 6]),
     (Kind::Extends, &[3, 4, 7, 8]),
     (Kind::Constant, &[3, 4, 5, 8]),
     (Kind::Variable, &[3, 4, 5, 8]),
     (Kind::Definition, &[3, 4, 5, 8, 9, 10, 12]),
-    (Kind::Instance, &[3, 4, 5, 7, 8, 9, 10, 11, 12, 14, 15, 16]),
+    (Kind::Instance, &[3, 4, 5, 7, 8, 9, 10, 11, 12, 14, 21, 16]),
     (Kind::End, &[3, 4]),
     (Kind::Assume, &[3, 4, 5, 9, 10, 12, 13]),
     (Kind::Theorem, &[3, 4, 5, 9, 10, 12]),
@@ -83,8 +86,8 @@ pub fn plans() -> Vec<Plan> {
             }
         }
     }
-    for first in 3..=16 {
-        plans.extend((3..=16).map(|second| Plan::TwoFields(first, second)));
+    for first in OF_FIELDS {
+        plans.extend(OF_FIELDS.map(|second| Plan::TwoFields(first, second)));
     }
     plans
 }
@@ -175,6 +178,9 @@ const BOX: u16 = 9;
 const J: u16 = 10;
 const FRESH: u16 = 11;
 const NOWHERE: u16 = 12;
+// Declared by the constant module only; where faults are put, definitions at 2 and at 3.
+const ACTION: u16 = 13;
+const TEMPORAL: u16 = 14;
 
 /// A file with a module that faults can be put into.
 struct Site<'a> {
@@ -182,8 +188,9 @@ struct Site<'a> {
     fields: Vec<Field>,
     /// Added to every name.
     offset: u16,
-    /// Module names: empty, instanced, with a named instance, extending that, two that clash.
-    modules: [u16; 6],
+    /// Module names: empty, instanced, with a named instance, extending that, two that clash, a constant
+    /// one to be instanced, and that with a named instance.
+    modules: [u16; 8],
     open: u16,
     declarations: usize,
     module_count: usize,
@@ -212,8 +219,8 @@ impl<'a> Site<'a> {
             settled: false,
             random,
             fields,
-            modules: [0, 1, 2, 3, 4, 5].map(|i| first + i),
-            open: first + 6,
+            modules: [0, 1, 2, 3, 4, 5, 6, 7].map(|i| first + i),
+            open: first + 8,
             declarations,
             module_count,
         };
@@ -234,13 +241,14 @@ impl<'a> Site<'a> {
     }
 
     fn fixture(&mut self) {
-        let [empty, instanced, named, extending, left, right] = self.modules;
+        let [empty, instanced, named, extending, left, right, calm, calm_named] = self.modules;
         let [x, c, k, f, q, i] = [X, C, K, F, Q, I].map(|name| self.name(name));
         let [d, g, boxed, j] = [D_, G, BOX, J].map(|name| self.name(name));
+        let [action, temporal] = [ACTION, TEMPORAL].map(|name| self.name(name));
         let plain = if self.clash { q } else { g };
         let u = || n(x, &[]);
         self.module(empty, vec![Field::End]);
-        let temporal = always(n(k, &[prime(u()), always(u())]));
+        let always_k = always(n(k, &[u(), always(u())]));
         self.module(
             instanced,
             vec![
@@ -250,7 +258,7 @@ impl<'a> Site<'a> {
                 Field::Constant(f, 0),
                 Field::Variable(x),
                 Field::Definition(plain, 1, and(p(0), n(d, &[]))),
-                Field::Definition(boxed, 0, temporal),
+                Field::Definition(boxed, 0, always_k),
                 Field::End,
             ],
         );
@@ -269,6 +277,20 @@ impl<'a> Site<'a> {
         for module in [left, right] {
             self.module(module, vec![Field::Variable(x), Field::End]);
         }
+        let constants = [c, d, f, action, temporal].map(|name| Field::Constant(name, 0));
+        let mut inside = vec![Field::Constant(k, 2)];
+        inside.extend(constants);
+        inside.push(Field::Definition(plain, 1, and(p(0), n(d, &[]))));
+        inside.push(Field::End);
+        self.module(calm, inside);
+        self.module(
+            calm_named,
+            vec![
+                Field::Extends(vec![calm]),
+                instance(j, 0, empty, &[]),
+                Field::End,
+            ],
+        );
         let open = self.open;
         let own = [(k, n(k, &[p(0), p(1)])), (d, lit(0)), (f, n(c, &[]))];
         self.module(
@@ -279,6 +301,8 @@ impl<'a> Site<'a> {
                 Field::Constant(k, 2),
                 Field::Definition(f, 1, lit(7)),
                 Field::Definition(q, 0, n(c, &[])),
+                Field::Definition(action, 0, prime(u())),
+                Field::Definition(temporal, 0, always(u())),
                 instance(i, 0, instanced, &own),
             ],
         );
@@ -359,7 +383,7 @@ impl<'a> Site<'a> {
                 28_000
             }),
             Kind::Extends => {
-                let [empty, instanced, named, extending, left, right] = self.modules;
+                let [empty, instanced, named, extending, left, right, ..] = self.modules;
                 let mut names = match self.random.below(3) {
                     0 => vec![empty],
                     1 => vec![named, instanced, extending],
@@ -452,7 +476,7 @@ impl<'a> Site<'a> {
 
     /// An expression with these of the causes 5, 9, 10, 12 and 13.
     fn formula(&mut self, causes: &[u32], parameters: u8) -> Expr {
-        let (x, c, f) = (self.name(X), self.name(C), self.name(F));
+        let [x, c, k, f] = [X, C, K, F].map(|name| self.name(name));
         let mut parts = vec![self.random.pick(&[lit(0), n(c, &[]), n(f, &[lit(0)])])];
         for cause in causes {
             let hidden = self.random.chance(25);
@@ -461,7 +485,12 @@ impl<'a> Site<'a> {
                 9 => self.unknown(parameters),
                 10 => self.miscounted(),
                 12 => {
+                    let (action, temporal) = (prime(n(x, &[])), always(n(x, &[])));
                     let wrong = [
+                        and(action.clone(), temporal.clone()),
+                        op(96, &[temporal.clone(), lit(1), action.clone()]),
+                        op(132, &[action.clone(), always(b(0))]),
+                        n(k, &[action, temporal]),
                         prime(prime(n(x, &[]))),
                         always(prime(lit(0))),
                         op(140, &[prime(b(0))]),
@@ -491,13 +520,14 @@ impl<'a> Site<'a> {
     fn instance(&mut self, causes: &[u32], name: u16) -> Field {
         let has = |cause: u32| causes.contains(&cause);
         let [x, c, k, f, d] = [X, C, K, F, D_].map(|name| self.name(name));
-        let [_, instanced, named, extending, ..] = self.modules;
-        let module = if has(7) {
-            self.random.pick(&[27_000, self.open])
-        } else if has(16) {
-            self.random.pick(&[named, extending])
-        } else {
-            instanced
+        let [action, temporal] = [ACTION, TEMPORAL].map(|name| self.name(name));
+        let [_, instanced, named, extending, _, _, calm, calm_named] = self.modules;
+        let module = match (has(7), has(21), has(16)) {
+            (true, ..) => self.random.pick(&[27_000, self.open]),
+            (_, true, true) => calm_named,
+            (_, true, false) => calm,
+            (_, false, true) => self.random.pick(&[named, extending]),
+            _ => instanced,
         };
         let lawful_unnamed = !self.clash && !has(8);
         let clashing_unnamed = self.clash && has(8);
@@ -520,8 +550,10 @@ impl<'a> Site<'a> {
         let mut with = Vec::new();
         // K is substituted, or stands for itself.
         let both = and(p(own), p(own + 1));
-        if has(15) {
-            with.push((k, p(own)));
+        if has(14) && has(21) {
+            // A constant module has nothing else that is unlawful.
+            let unlawful = [n(x, &[]), and(p(own), n(x, &[])), prime(lit(0))];
+            with.push((k, self.random.pick(&unlawful)));
         } else if self.random.chance(50) || over == Some(1) {
             with.push((
                 k,
@@ -529,7 +561,9 @@ impl<'a> Site<'a> {
                     .pick(&[both, lit(3), n(k, &[p(own + 1), p(own)])]),
             ));
         }
-        if has(14) {
+        if has(21) && has(12) {
+            with.push((c, prime(prime(n(x, &[])))));
+        } else if has(14) && !has(21) {
             let unlawful = [n(x, &[]), prime(lit(0)), always(n(x, &[]))];
             with.push((c, self.random.pick(&unlawful)));
         } else if self.random.chance(50) {
@@ -550,7 +584,15 @@ impl<'a> Site<'a> {
         } else {
             with.push((f, lit(2)));
         }
-        if has(12) {
+        if has(21) {
+            // Each written, or standing for itself.
+            let high = [(action, prime(n(x, &[]))), (temporal, always(lit(0)))];
+            for written in high {
+                if self.random.chance(60) {
+                    with.push(written);
+                }
+            }
+        } else if has(12) {
             with.push((x, prime(prime(n(x, &[])))));
         } else if self.random.chance(50) {
             with.push((x, n(x, &[])));

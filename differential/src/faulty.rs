@@ -1,8 +1,11 @@
 //! The reference with a fault put in, to try the comparison out.
 
+use crate::book::{self, Book, Misreading};
 use crate::checker::{
-    body_refusal, refusal, refused, Checker, Expansions, Queries, Reference, BODY_REFUSED,
+    self, body_refusal, refusal, refused, Checker, Expansions, Queries, Reference, BODY_REFUSED,
+    REFUSED,
 };
+use crate::syntax::Expr;
 
 /// A fault that a checker could have.
 #[derive(Clone, Copy, Debug, PartialEq, Eq)]
@@ -15,8 +18,8 @@ pub enum Fault {
     PlaceOfEighteen,
     /// An unknown name is reported as a wrong argument count.
     NineAsTen,
-    /// An unlawful substitute is reported as a brought level.
-    FourteenAsFifteen,
+    /// An unlawful substitute is reported as one that mixes.
+    FourteenAsTwentyOne,
     /// The first card is copied to the second.
     CardCopied,
     /// The first card is copied to all others.
@@ -81,15 +84,17 @@ pub enum Fault {
     LargestRefused,
     /// The definition of number 255 is one too many.
     DefinitionLimit,
+    /// The rules are misread.
+    Misread(Misreading),
 }
 
 /// Every fault with its name.
-pub const FAULTS: [(&str, Fault); 43] = [
+pub const FAULTS: [(&str, Fault); 59] = [
     ("place-next", Fault::PlaceNext),
     ("place-of-open-file", Fault::PlaceOfOpenFile),
     ("place-of-eighteen", Fault::PlaceOfEighteen),
     ("nine-as-ten", Fault::NineAsTen),
-    ("fourteen-as-fifteen", Fault::FourteenAsFifteen),
+    ("fourteen-as-twenty-one", Fault::FourteenAsTwentyOne),
     ("card-copied", Fault::CardCopied),
     ("one-card", Fault::OneCard),
     ("cards-at-zero", Fault::CardsAtZero),
@@ -128,6 +133,37 @@ pub const FAULTS: [(&str, Fault); 43] = [
     ("body-start", Fault::BodyStart),
     ("largest-refused", Fault::LargestRefused),
     ("definition-limit", Fault::DefinitionLimit),
+    ("mixing-gives-3", Fault::Misread(Misreading::NoMixing)),
+    ("neighbours-mix", Fault::Misread(Misreading::NeighboursMix)),
+    ("no-mixing-of-three", Fault::Misread(Misreading::NotInThree)),
+    (
+        "no-mixing-declared",
+        Fault::Misread(Misreading::NotInDeclared),
+    ),
+    (
+        "no-mixing-in-binders",
+        Fault::Misread(Misreading::NotInBinders),
+    ),
+    ("one-ceiling", Fault::Misread(Misreading::OneCeiling)),
+    (
+        "no-mixing-in-queries",
+        Fault::Misread(Misreading::NotInQueries),
+    ),
+    ("21-unjudged", Fault::Misread(Misreading::NoTwentyOne)),
+    ("21-of-any-module", Fault::Misread(Misreading::AnyModule)),
+    ("21-before-14", Fault::Misread(Misreading::BeforeFourteen)),
+    ("21-after-15", Fault::Misread(Misreading::AfterFifteen)),
+    ("21-after-16", Fault::Misread(Misreading::AfterSixteen)),
+    ("21-of-written", Fault::Misread(Misreading::WrittenOnly)),
+    ("21-of-used", Fault::Misread(Misreading::UsedOnly)),
+    (
+        "21-of-neighbours",
+        Fault::Misread(Misreading::NeighboursOnly),
+    ),
+    (
+        "21-over-parameters",
+        Fault::Misread(Misreading::ParametersAtTwo),
+    ),
 ];
 
 impl Fault {
@@ -136,9 +172,14 @@ impl Fault {
         found.next().map(|&(_, fault)| fault)
     }
 
-    /// Whether only large files show the fault.
-    pub fn is_large(self) -> bool {
-        matches!(self, Fault::LargestRefused | Fault::DefinitionLimit)
+    /// The fewest bytes that some file takes to show the fault are below this.
+    pub fn bytes(self) -> usize {
+        match self {
+            Fault::LargestRefused | Fault::DefinitionLimit => usize::MAX,
+            // An INSTANCE of a module that declares two names or three.
+            Fault::Misread(_) => 90,
+            _ => 70,
+        }
     }
 }
 
@@ -230,7 +271,7 @@ impl Faulty {
                     closed.then(|| verdict - 1)
                 }
                 Fault::NineAsTen if cause == 9 => Some(refused(10, place)),
-                Fault::FourteenAsFifteen if cause == 14 => Some(refused(15, place)),
+                Fault::FourteenAsTwentyOne if cause == 14 => Some(refused(21, place)),
                 Fault::CardsKept => {
                     cards.copy_from_slice(before);
                     None
@@ -293,6 +334,28 @@ impl Faulty {
         }
     }
 
+    /// For a checker that misreads the rules: the cards it leaves, and the refusal of the file or what it
+    /// made of it.
+    fn misread(&self, file: &[u8], cards: &mut [u8]) -> Option<Result<Book, u32>> {
+        let Fault::Misread(misreading) = self.0 else {
+            return None;
+        };
+        if cards.len() < CARDS {
+            return None;
+        }
+        Some(match book::judge(file, Some(misreading))? {
+            Ok(book) => {
+                let used = 125 * book.model.definitions.len();
+                cards[..used].copy_from_slice(&book.model.cards[..used]);
+                Ok(book)
+            }
+            Err((cause, place)) => {
+                cards[..CARDS].fill(0);
+                Err(refused(cause, place))
+            }
+        })
+    }
+
     fn accepts(file: &[u8], cards: &[u8]) -> bool {
         cards.len() >= CARDS && Reference.check(file, &mut vec![0; CARDS]) <= 256
     }
@@ -312,6 +375,9 @@ impl Checker for Faulty {
     }
 
     fn check(&self, file: &[u8], cards: &mut [u8]) -> u32 {
+        if let Some(misread) = self.misread(file, cards) {
+            return misread.map_or_else(|reply| reply, |book| book.model.definitions.len() as u32);
+        }
         let before = cards.to_vec();
         let file = &self.seen(file)[..];
         let reply = Reference.check(file, cards);
@@ -325,6 +391,18 @@ impl Checker for Faulty {
 
 impl Queries for Faulty {
     fn level(&self, file: &[u8], cards: &mut [u8], module: u16, expr: &[u8], levels: &[u8]) -> u32 {
+        if let Some(misread) = self.misread(file, cards) {
+            // What is wrong with the expression does not hang on levels.
+            let (plain, mut scratch) = (book::without_levels(file), vec![0; CARDS]);
+            let asked = Reference.level(&plain, &mut scratch, module, expr, levels);
+            return match (misread, Expr::read(expr)) {
+                (Err(reply), _) => reply,
+                (Ok(mut book), Some(expr)) if refusal(asked).is_none() => {
+                    book.query(module, &expr, levels).into()
+                }
+                _ => asked,
+            };
+        }
         let before = cards.to_vec();
         let file = &self.seen(file)[..];
         let accepted = Self::accepts(file, cards);
@@ -353,6 +431,10 @@ impl Queries for Faulty {
     }
 
     fn alike(&self, file: &[u8], cards: &mut [u8], a: u32, b: u32) -> u32 {
+        if let Some(misread) = self.misread(file, cards) {
+            let alike = |book: Book| book.model.alike(a, b).map_or(refused(17, 0), u32::from);
+            return misread.map_or_else(|reply| reply, alike);
+        }
         let before = cards.to_vec();
         let file = &self.seen(file)[..];
         let accepted = Self::accepts(file, cards);
@@ -374,6 +456,14 @@ impl Queries for Faulty {
     }
 
     fn body(&self, file: &[u8], cards: &mut [u8], d: u32) -> u64 {
+        if let Some(misread) = self.misread(file, cards) {
+            let refused = |reply: u32| BODY_REFUSED + u64::from(reply & !REFUSED);
+            return match misread.map(|book| book.model.body(file, d)) {
+                Ok(Some((start, length))) => 65_536 * start as u64 + length as u64,
+                Ok(None) => refused(checker::refused(17, 0)),
+                Err(reply) => refused(reply),
+            };
+        }
         let before = cards.to_vec();
         let file = &self.seen(file)[..];
         let accepted = Self::accepts(file, cards);
@@ -407,6 +497,15 @@ impl Expansions for Faulty {
         params: u8,
         out: &mut [u8],
     ) -> u32 {
+        match self.misread(file, cards) {
+            // The reference expands; a file that it refuses itself it refuses here too.
+            Some(Ok(_)) => {
+                let mut scratch = vec![0; CARDS];
+                return Reference.expand(file, &mut scratch, module, expr, params, out);
+            }
+            Some(Err(reply)) => return reply,
+            None => (),
+        }
         let before = cards.to_vec();
         let lent = out.to_vec();
         let file = &self.seen(file)[..];
@@ -441,9 +540,7 @@ impl Expansions for Faulty {
             }
             (Fault::OutputPastEnd, None) if length < out.len() => out[length] = 0,
             (Fault::IndexUnmoved, None) => {
-                if let Some(crate::syntax::Expr::BuiltIn(128.., _)) =
-                    crate::syntax::Expr::read(&out[..length])
-                {
+                if let Some(Expr::BuiltIn(128.., _)) = Expr::read(&out[..length]) {
                     // The first index above 0 in an expansion under a binder.
                     let found = (0..length.saturating_sub(2))
                         .find(|&at| out[at..at + 2] == [1, 0] && out[at + 2] > 0);

@@ -4,6 +4,7 @@
 #![forbid(unsafe_code)]
 
 pub mod accepted;
+pub mod book;
 pub mod cases;
 pub mod checker;
 pub mod coverage;
@@ -14,6 +15,8 @@ pub mod faults;
 pub mod faulty;
 pub mod limits;
 pub mod long;
+pub mod mixed_substitutes;
+pub mod mixing;
 pub mod model;
 pub mod nesting;
 #[cfg(feature = "proved")]

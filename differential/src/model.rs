@@ -288,7 +288,7 @@ impl Model {
     /// The level of an operator over arguments of these levels.
     pub fn applied(&self, operator: &Operator, levels: &[u8]) -> u8 {
         match operator.meaning {
-            Meaning::Constant(_) => levels.iter().copied().max().unwrap_or(0),
+            Meaning::Constant(_) => rows::highest(levels),
             Meaning::Variable(_) => 1,
             Meaning::Defined(number) => {
                 let weights = [1, 5, 25];

@@ -204,7 +204,11 @@ fn bound_call(random: &mut Random, calls: &[(u16, Operator)], expr: Expr) -> Exp
 fn level(random: &mut Random, model: &Model) -> Call {
     let (name, module) = module(random, model);
     let count = random.pick(&[0, 0, 0, 1, 1, 2, 2, 3, 3, 4]);
-    let mut levels: Vec<u8> = (0..count).map(|_| random.below(5) as u8).collect();
+    let mut levels: Vec<u8> = match random.below(4) {
+        // Only what does not mix.
+        0 => (0..count).map(|_| random.pick(&[2, 3])).collect(),
+        _ => (0..count).map(|_| random.below(5) as u8).collect(),
+    };
     if count > 0 && random.chance(6) {
         let at = random.below(count);
         levels[at] = random.pick(&[5, 6, 255]);

@@ -6,7 +6,7 @@ pub struct Row {
     pub arguments: usize,
     /// For each argument a mask: bit l is set if level l is taken.
     pub takes: [u8; 3],
-    /// The level given, or `None` for the highest of the arguments.
+    /// The level given, or `None` for the highest of the arguments, which is 4 of a 2 and a 3.
     pub gives: Option<u8>,
     /// The level of the variable bound in the last argument.
     pub binds: Option<u8>,
@@ -73,8 +73,20 @@ impl Row {
         if !taken {
             return 4;
         }
-        let highest = levels.iter().copied().max().unwrap_or(0);
-        self.gives.unwrap_or(highest)
+        self.gives.unwrap_or_else(|| highest(levels))
+    }
+}
+
+/// Whether levels hold both a 2 and a 3.
+pub fn mixed(levels: &[u8]) -> bool {
+    levels.contains(&2) && levels.contains(&3)
+}
+
+/// The highest of some levels, 0 if there are none: action and temporal do not mix.
+pub fn highest(levels: &[u8]) -> u8 {
+    match mixed(levels) {
+        true => 4,
+        false => levels.iter().copied().max().unwrap_or(0),
     }
 }
 

@@ -1,6 +1,7 @@
 //! Compares two checkers on generated files and queries.
 
 use crate::accepted;
+use crate::book;
 use crate::cases::{Call, Case, Outcome};
 use crate::checker::{Checker, Offer};
 use crate::coverage::{Coverage, Section};
@@ -9,6 +10,8 @@ use crate::expansions;
 use crate::families;
 use crate::faults::{self, Plan};
 use crate::limits;
+use crate::mixed_substitutes;
+use crate::mixing;
 use crate::model::Model;
 use crate::queries;
 use crate::random::Random;
@@ -87,6 +90,8 @@ pub struct Report {
     pub given_up: u64,
     /// Likeness and bodies that are what the generator knows.
     pub by_the_model: u64,
+    /// Files judged the same by the book: the verdict, and every entry of every card.
+    pub by_the_book: u64,
     pub difference: Option<Difference>,
 }
 
@@ -109,8 +114,8 @@ impl Display for Report {
         )?;
         writeln!(
             f,
-            "{} answers as the generator knows them",
-            self.by_the_model
+            "{} answers as the generator knows them, {} files judged the same by the book",
+            self.by_the_model, self.by_the_book
         )?;
         if self.not_offered > 0 {
             let count = self.not_offered;
@@ -155,11 +160,14 @@ fn size(random: &mut Random) -> (usize, usize) {
     (size, modules)
 }
 
+/// Files of one turn.
+const TURN: u64 = 25;
+
 /// The file of this number in a run. Numbers take turns through all the kinds of files.
 pub fn generate(seed: u64, number: u64) -> Generated {
     let mut random = Random::part(seed, number);
     let random = &mut random;
-    let (turn, slot) = ((number / 20) as usize, number % 20);
+    let (turn, slot) = ((number / TURN) as usize, number % TURN);
     let plain = |file: Vec<u8>| Generated {
         file,
         meant: None,
@@ -241,6 +249,30 @@ pub fn generate(seed: u64, number: u64) -> Generated {
             plain(syntax::file(&fields))
         }
         18 => plain(damage::random_bytes(random)),
+        20..=22 => {
+            let number = 3 * turn + slot as usize - 20;
+            let mixed = mixing::build(number % mixing::count(), random);
+            let meant = mixed.fault.map(|place| Meant {
+                cause: 12,
+                place: Some(place),
+            });
+            Generated {
+                file: mixed.file,
+                meant: Some((Section::Mixing, mixed.label, meant)),
+                calls: mixed.calls,
+            }
+        }
+        23 | 24 => {
+            let number = 2 * turn + slot as usize - 23;
+            let number = number % mixed_substitutes::count();
+            let mixed = mixed_substitutes::build(number, random);
+            let meant = mixed.cause.map(|cause| Meant { cause, place: None });
+            Generated {
+                file: mixed.file,
+                meant: Some((Section::MixedSubstitutes, mixed.label, meant)),
+                calls: Vec::new(),
+            }
+        }
         _ => {
             // A file that was refused while another grew.
             let grown = accepted::grow(random, 400, 4);
@@ -290,6 +322,8 @@ pub fn run(left: &dyn Checker, right: &dyn Checker, options: Options) -> Report 
 
 /// Most tokens of a tree of the long way.
 const FUEL: usize = 2_000;
+/// Most bytes of a file that is judged by the book as well.
+const BOOK: usize = 4_000;
 
 impl Runner<'_> {
     /// Whether both sides offer a call; one left out is counted.
@@ -384,11 +418,13 @@ impl Runner<'_> {
         let outcome = self.compare(&case)?;
         let verdict = case.refusal(&outcome);
         self.report.coverage.case(&case, &outcome, verdict);
+        let checked = case.clone();
         case.cards = queries::card_memory(random);
         if case.cards != 32_000 {
             let outcome = self.compare(&case)?;
             self.report.coverage.case(&case, &outcome, verdict);
         }
+        self.by_the_book(&checked, &outcome, verdict)?;
         if let Some((section, label, meant)) = generated.meant {
             let as_meant = match meant {
                 None => verdict.is_none(),
@@ -491,6 +527,39 @@ impl Runner<'_> {
         self.astray(
             case,
             format!("reply {reply}, the generator knows {known:?}"),
+        );
+        None
+    }
+
+    /// Compares a verdict and all cards with those of a second judge.
+    fn by_the_book(
+        &mut self,
+        case: &Case,
+        outcome: &Outcome,
+        verdict: Option<(u32, u32)>,
+    ) -> Option<()> {
+        if case.file.len() > BOOK {
+            return Some(());
+        }
+        let Some(judged) = book::judge(&case.file, None) else {
+            return Some(());
+        };
+        let same = match (&judged, verdict) {
+            (Ok(book), None) => {
+                let used = 125 * book.model.definitions.len();
+                outcome.cards[..used] == book.model.cards[..used]
+            }
+            (Err(refusal), Some(verdict)) => *refusal == verdict,
+            _ => false,
+        };
+        if same {
+            self.report.by_the_book += 1;
+            return Some(());
+        }
+        let judged = judged.err();
+        self.astray(
+            case,
+            format!("verdict {verdict:?}, by the book {judged:?}, or the cards differ"),
         );
         None
     }

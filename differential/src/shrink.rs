@@ -89,12 +89,12 @@ impl Shrinker<'_> {
         let mut others = Vec::new();
         match candidate.call {
             Call::Alike { a, b } => {
-                for (x, y) in [(1, 1), (0, 1), (1, 0)] {
-                    others.push(Call::Alike {
-                        a: a.saturating_sub(x),
-                        b: b.saturating_sub(y),
-                    });
-                }
+                // A definition less may be several less before the one asked for: it is brought.
+                let steps = (1..=5).flat_map(|less| [(less, less), (0, less), (less, 0)]);
+                others.extend(steps.map(|(x, y)| Call::Alike {
+                    a: a.saturating_sub(x),
+                    b: b.saturating_sub(y),
+                }));
             }
             Call::Body { d } => {
                 others.extend([1, 2, 3].map(|less| Call::Body {

@@ -13,6 +13,7 @@ fn counts_are_complete_at_the_default_seed() {
     let missing = report.coverage.missing(Offer::Expansions);
     assert!(missing.is_empty(), "missing:\n{}", missing.join("\n"));
     assert!(report.long_way > 1_000, "{report}");
+    assert!(report.by_the_book > 1_500, "{report}");
 }
 
 /// The reference without its expansions.

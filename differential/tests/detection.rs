@@ -6,9 +6,6 @@ use differential::runner::{run, Options};
 
 /// Files within which a fault has to be found.
 const FILES: u64 = 1_000;
-/// Bytes of a shrunk file.
-const SMALL: usize = 60;
-
 #[test]
 fn every_fault_is_found_and_shrunk() {
     let mut wrong = Vec::new();
@@ -30,7 +27,7 @@ fn every_fault_is_found_and_shrunk() {
             found.shrunk.call,
             found.shrunk_what
         );
-        if size >= SMALL && !fault.is_large() {
+        if size >= fault.bytes() {
             wrong.push(format!("{name}: shrunk to {size} bytes only\n{found}"));
         }
         if size > found.case.file.len() {

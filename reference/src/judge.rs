@@ -1,4 +1,5 @@
-//! Judges a file field by field; within a field the causes come in the order of their numbers.
+//! Judges a file field by field; within a field the causes come in the order of the code below. That is
+//! the order of their numbers, but for cause 21: an INSTANCE is judged by 4, 5, 7 to 12, 14, 21, 15, 16.
 
 use crate::context::{
     Declaration, Definition, Dictionary, Entity, Instance, Module, Scope, Substitute, Tables,
@@ -28,7 +29,7 @@ impl Program {
         Self::judge_by(file, Judge::new())
     }
 
-    /// Judges a file without causes 15 and 16, so that the definitions brought can be looked at.
+    /// Judges a file without cause 16, so that the definitions brought on can be looked at.
     #[cfg(test)]
     pub fn judge_leniently(file: &[u8]) -> Result<Program, Refusal> {
         let mut judge = Judge::new();
@@ -385,14 +386,15 @@ impl Judge {
         Ok(substitutes)
     }
 
-    /// Causes 12 and 14.
+    /// Causes 12, 14 and 21.
     fn substitute_levels(
         &self,
         module: usize,
         substitutes: &[Option<Substitute>],
     ) -> Result<(), Cause> {
         let module = &self.tables.modules[module];
-        let mut verdict = Ok(());
+        let mut unlawful = false;
+        let (mut action, mut temporal) = (false, false);
         for &id in &module.declared {
             let level = match substitutes[id as usize].expect("every declared name has one") {
                 Substitute::Written(text) => self.level(text),
@@ -410,11 +412,13 @@ impl Judge {
             } else {
                 declaration.variable as u8
             };
-            if level > most {
-                verdict = Err(Cause::SubstituteLevel);
-            }
+            unlawful |= level > most;
+            action |= level == 2;
+            temporal |= level == 3;
         }
-        verdict
+        refuse_if(unlawful, Cause::SubstituteLevel)?;
+        let mixed = action && temporal;
+        refuse_if(module.constant && mixed, Cause::MixedSubstitutes)
     }
 
     /// Adds the instance and the definitions it brings.
@@ -451,7 +455,9 @@ impl Judge {
         }
         self.forms.forget_substitutes();
         let wrong = self.cards[start..].iter().any(|card| card[0] == 4);
-        refuse_if(wrong && !self.lenient, Cause::BroughtLevel)?;
+        // Causes 14 and 21 leave nothing for cause 15: a second opinion, in debug builds.
+        debug_assert!(!wrong, "a lawful instance brings what is level-correct");
+        refuse_if(wrong, Cause::BroughtLevel)?;
         let named_inside = self.tables.modules[module].has_instance;
         refuse_if(named_inside && !self.lenient, Cause::NamedInstance)?;
         if field.name != 0 {

@@ -3,7 +3,7 @@
 use crate::context::Declaration;
 use crate::expressions::{Node, Texts};
 use crate::limits::Limits;
-use crate::rows::{self, Gives, Row, Takes};
+use crate::rows::{self, higher, Gives, Row, Takes};
 use crate::summaries::Summary;
 
 /// A card: the level for each choice of levels of up to three parameters.
@@ -90,117 +90,54 @@ impl ByCards<'_> {
 /// The level of a declared name with arguments of these levels.
 pub fn declared_level(declaration: &Declaration, arguments: &[u8]) -> u8 {
     let own = declaration.variable as u8;
-    arguments.iter().fold(own, |a, &b| a.max(b))
+    arguments.iter().fold(own, |a, &b| higher(a, b))
 }
 
 /// The level of an expression as a function of its parameters' levels.
 ///
-/// It is 4 if the form is `bad`, if a parameter of `capped[c - 1]` is above c, or if a demand
-/// fails; otherwise it is the highest of `base` and the parameters in `weights`. A demand is a set
-/// W of parameters: bit W of `demands[0]` says that the highest in W is not 2, and bit W of
-/// `demands[1]` that some parameter in W is 3 (it stands beside something that is already at 2).
+/// Levels are ordered 0, 1, then 2 beside 3, then 4. A row that does not take every level takes the
+/// higher of two just if it takes both, since none takes 2 and 3. So each parameter counts by itself:
+/// the level is 4 if a parameter of `no_action` is at 2, one of `no_temporal` at 3, or one that occurs
+/// at 4; otherwise it is the highest of `base` and the parameters in `weights`. A parameter that occurs
+/// is in one of the three. A base of 4 stays 4.
 #[derive(Clone, Copy, Debug, PartialEq, Eq)]
 pub struct Form {
-    bad: bool,
     base: u8,
     weights: u8,
-    capped: [u8; 3],
-    demands: [u64; 2],
-}
-
-/// The places of the bits set.
-fn bits(mask: u64) -> impl Iterator<Item = usize> {
-    let mut left = mask;
-    std::iter::from_fn(move || {
-        (left != 0).then(|| {
-            let bit = left.trailing_zeros() as usize;
-            left &= left - 1;
-            bit
-        })
-    })
+    no_action: u8,
+    no_temporal: u8,
 }
 
 impl Form {
     const fn constant(level: u8) -> Self {
         Form {
-            bad: false,
             base: level,
             weights: 0,
-            capped: [0; 3],
-            demands: [0; 2],
+            no_action: 0,
+            no_temporal: 0,
         }
-    }
-
-    /// Adds that the other expression is level-correct.
-    fn need(&mut self, other: &Form) {
-        self.bad |= other.bad;
-        for (own, capped) in self.capped.iter_mut().zip(other.capped) {
-            *own |= capped;
-        }
-        for (own, demands) in self.demands.iter_mut().zip(other.demands) {
-            *own |= demands;
-        }
-    }
-
-    /// Adds that the highest of a level and some parameters is at most `most` (1 to 3).
-    fn cap(&mut self, base: u8, weights: u8, most: u8) {
-        self.bad |= base > most;
-        for capped in &mut self.capped[most as usize - 1..] {
-            *capped |= weights;
-        }
-    }
-
-    /// Adds that the highest of a level and some parameters is not 2.
-    fn demand(&mut self, base: u8, weights: u8) {
-        match (base, weights) {
-            (0 | 1, 0) => {}
-            (0 | 1, _) => self.demands[0] |= 1 << weights,
-            (2, 0) => self.bad = true,
-            (2, _) => self.demands[1] |= 1 << weights,
-            _ => {}
-        }
-    }
-
-    /// Raises the level to that of the other expression.
-    fn raise(&mut self, other: &Form) {
-        self.base = self.base.max(other.base);
-        self.weights |= other.weights;
     }
 
     /// The level with the parameters at the given levels.
     pub fn at(&self, levels: &[u8]) -> u8 {
-        let mut above = [0u8; 3];
-        let (mut twos, mut threes) = (0u8, 0u8);
         let mut highest = self.base;
         for (index, &level) in levels.iter().enumerate() {
-            let bit = 1 << index;
-            match level {
-                0 | 1 => {}
-                2 => {
-                    above[0] |= bit;
-                    twos |= bit;
-                }
-                3 => {
-                    above[0] |= bit;
-                    above[1] |= bit;
-                    threes |= bit;
-                }
-                _ => above = above.map(|mask| mask | bit),
+            let has = |mask: u8| mask >> index & 1 == 1;
+            let weighs = has(self.weights);
+            let wrong = match level {
+                0 | 1 => false,
+                2 => has(self.no_action),
+                3 => has(self.no_temporal),
+                _ => has(self.no_action | self.no_temporal),
+            };
+            if wrong {
+                return 4;
             }
-            if self.weights & bit != 0 {
-                highest = highest.max(level);
+            if weighs {
+                highest = higher(highest, level);
             }
         }
-        let capped = above.iter().zip(self.capped).any(|(&a, c)| a & c != 0);
-        if self.bad
-            || capped
-            || bits(self.demands[0]).any(|w| w as u8 & threes == 0 && w as u8 & twos != 0)
-            || bits(self.demands[1]).any(|w| w as u8 & threes == 0)
-        {
-            4
-        } else {
-            highest
-        }
+        highest
     }
 
     /// The card of a definition with this form.
@@ -213,15 +150,44 @@ impl Form {
         }
         card
     }
+
+    /// Adds what is wrong inside the other expression, whatever becomes of its level.
+    fn need(&mut self, other: &Form) {
+        if other.base == 4 {
+            self.base = 4;
+        }
+        self.no_action |= other.no_action;
+        self.no_temporal |= other.no_temporal;
+    }
+
+    /// Adds that the other expression is not taken at 2.
+    fn refuse_action(&mut self, other: &Form) {
+        if other.base == 2 {
+            self.base = 4;
+        }
+        self.no_action |= other.weights;
+    }
+
+    /// Adds that the other expression is not taken at 3.
+    fn refuse_temporal(&mut self, other: &Form) {
+        if other.base == 3 {
+            self.base = 4;
+        }
+        self.no_temporal |= other.weights;
+    }
+
+    /// Raises the level to that of the other expression.
+    fn raise(&mut self, other: &Form) {
+        self.base = higher(self.base, other.base);
+        self.weights |= other.weights;
+    }
 }
 
 impl Summary for Form {
     #[inline]
     fn parameter(index: usize) -> Self {
-        let bit = 1 << index;
         Form {
-            weights: bit,
-            capped: [0, 0, bit],
+            weights: 1 << index,
             ..Form::constant(0)
         }
     }
@@ -246,42 +212,42 @@ impl Summary for Form {
     }
 
     fn built_in(row: &Row, arguments: &[Self]) -> Self {
-        let mut form = Form::constant(0);
+        let mut form = match row.gives {
+            Gives::Highest => Form::constant(0),
+            Gives::Always(level) => Form::constant(level),
+        };
         for (argument, takes) in arguments.iter().zip(row.takes) {
             form.need(argument);
+            // A row that does not take every level gives its own.
             match takes {
-                Takes::Any => {}
-                Takes::AtMost(most) => form.cap(argument.base, argument.weights, most),
-                Takes::NoTransition => form.demand(argument.base, argument.weights),
+                Takes::Any => form.raise(argument),
+                Takes::AtMost(most) => {
+                    form.refuse_temporal(argument);
+                    if most < 2 {
+                        form.refuse_action(argument);
+                    }
+                }
+                Takes::NoTransition => form.refuse_action(argument),
             }
-        }
-        match row.gives {
-            Gives::Highest => arguments.iter().for_each(|argument| form.raise(argument)),
-            Gives::Always(level) => form.base = level,
         }
         form
     }
 
     fn apply(&self, arguments: &[Self]) -> Self {
         let mut form = Form::constant(self.base);
-        form.bad = self.bad;
-        for index in bits(self.capped[2] as u64) {
-            let argument = &arguments[index];
-            form.need(argument);
-            let free = self.capped.iter().filter(|&c| c >> index & 1 == 0).count();
-            form.cap(argument.base, argument.weights, free as u8 + 1);
-            if self.weights >> index & 1 == 1 {
-                form.raise(argument);
+        for (index, argument) in arguments.iter().enumerate() {
+            let has = |mask: u8| mask >> index & 1 == 1;
+            if has(self.weights | self.no_action | self.no_temporal) {
+                form.need(argument);
             }
-        }
-        for (demands, least) in self.demands.into_iter().zip([0, 2]) {
-            for set in bits(demands) {
-                let (mut base, mut weights) = (least, 0);
-                for index in bits(set as u64) {
-                    base = base.max(arguments[index].base);
-                    weights |= arguments[index].weights;
-                }
-                form.demand(base, weights);
+            if has(self.no_action) {
+                form.refuse_action(argument);
+            }
+            if has(self.no_temporal) {
+                form.refuse_temporal(argument);
+            }
+            if has(self.weights) {
+                form.raise(argument);
             }
         }
         form

@@ -5,8 +5,7 @@
 use crate::context::Substitute;
 use crate::expressions::{Node, Operator};
 use crate::judge::Program;
-use crate::levels;
-use crate::rows;
+use crate::rows::{self, Gives};
 
 /// A token of an expansion; no defined name is left.
 #[derive(Clone, Copy, Debug, PartialEq, Eq)]
@@ -186,11 +185,19 @@ impl<'p> LongWay<'p> {
             levels: Vec<u8>,
         }
         let finish = |open: &Open| match open.item {
-            Item::BuiltIn(code) => rows::known(code).level(&open.levels),
-            Item::Declared { id, .. } => {
-                let declaration = &self.program.tables.declarations[id as usize];
-                levels::declared_level(declaration, &open.levels)
+            Item::BuiltIn(code) => {
+                let row = rows::known(code);
+                let mut arguments = open.levels.iter().zip(row.takes);
+                match row.gives {
+                    _ if !arguments.all(|(&level, takes)| takes.takes(level)) => 4,
+                    Gives::Highest => highest(&open.levels),
+                    Gives::Always(level) => level,
+                }
             }
+            Item::Declared { id, .. } if self.program.tables.declarations[id as usize].variable => {
+                1
+            }
+            Item::Declared { .. } => highest(&open.levels),
             Item::Literal(_) => 0,
             Item::Parameter(_) | Item::Bound(_) => unreachable!("levelled at once"),
         };
@@ -260,6 +267,14 @@ impl<'p> LongWay<'p> {
         }
         Some(bytes)
     }
+}
+
+/// The highest of the levels, 0 if there are none; 4 if they hold a 2 and a 3.
+fn highest(levels: &[u8]) -> u8 {
+    if levels.contains(&2) && levels.contains(&3) {
+        return 4;
+    }
+    levels.iter().copied().max().unwrap_or(0)
 }
 
 /// For each token of a tree, the number of its binders around it.

@@ -1,7 +1,8 @@
 //! Causes and refusals.
 
-/// What can be wrong with a file or a query, in the order of the causes' numbers.
-#[derive(Clone, Copy, Debug, PartialEq, Eq, PartialOrd, Ord)]
+/// What can be wrong with a file or a query. The order in which causes are judged is that of `judge`
+/// and `queries`; a number says nothing of it.
+#[derive(Clone, Copy, Debug, PartialEq, Eq)]
 #[repr(u32)]
 pub enum Cause {
     CardMemory = 1,
@@ -22,6 +23,7 @@ pub enum Cause {
     NamedInstance = 16,
     NoSuch = 17,
     TooLong = 18,
+    MixedSubstitutes = 21,
 }
 
 impl Cause {

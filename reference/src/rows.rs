@@ -3,7 +3,7 @@
 /// Which levels an argument may have.
 #[derive(Clone, Copy, Debug, PartialEq, Eq)]
 pub enum Takes {
-    /// Any level; 4 then comes through as the highest.
+    /// Any level but 4, which comes through.
     Any,
     /// At most this level.
     AtMost(u8),
@@ -14,10 +14,31 @@ pub enum Takes {
 /// The level of an application whose arguments are taken.
 #[derive(Clone, Copy, Debug, PartialEq, Eq)]
 pub enum Gives {
-    /// The highest level of the arguments, 0 if there are none.
+    /// The highest level of the arguments, 0 if there are none, and 4 of a 2 and a 3.
     Highest,
     /// This level.
     Always(u8),
+}
+
+impl Takes {
+    /// Whether an argument may have this level.
+    pub fn takes(self, level: u8) -> bool {
+        match self {
+            Takes::Any => level <= 3,
+            Takes::AtMost(most) => level <= most,
+            Takes::NoTransition => matches!(level, 0 | 1 | 3),
+        }
+    }
+}
+
+/// The higher of two levels. Action and temporal do not mix: of 2 and 3 it is 4.
+#[inline]
+pub const fn higher(a: u8, b: u8) -> u8 {
+    match (a, b) {
+        (2, 3) | (3, 2) => 4,
+        _ if a > b => a,
+        _ => b,
+    }
 }
 
 /// One row of the table.
@@ -78,15 +99,10 @@ impl Row {
     pub fn level(&self, arguments: &[u8]) -> u8 {
         let mut highest = 0;
         for (&level, takes) in arguments.iter().zip(&self.takes) {
-            let taken = match takes {
-                Takes::Any => level <= 3,
-                Takes::AtMost(most) => level <= *most,
-                Takes::NoTransition => matches!(level, 0 | 1 | 3),
-            };
-            if !taken {
+            if !takes.takes(level) {
                 return 4;
             }
-            highest = highest.max(level);
+            highest = higher(highest, level);
         }
         match self.gives {
             Gives::Highest => highest,

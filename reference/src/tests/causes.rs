@@ -536,6 +536,13 @@ fn cause_12_and_13() {
         (inside(theorem(wrong())), 12, 3),
         (inside(assume(wrong())), 12, 3),
         (inside(assume(always(prime(x())))), 12, 3),
+        (inside(def(3, 0, and(prime(x()), always(x())))), 12, 3),
+        (
+            inside(theorem(and(op(120, &[prime(x()), x()]), prime(x())))),
+            12,
+            3,
+        ),
+        (inside(assume(and(prime(lit(0)), always(lit(0))))), 12, 3),
         (inside(assume(x())), 13, 3),
         (inside(assume(prime(lit(0)))), 13, 3),
         (inside(assume(always(lit(0)))), 13, 3),
@@ -629,58 +636,224 @@ fn cause_14() {
     ]);
 }
 
+/// A module of two constants and an operator, and one that brings it under the fields given.
+fn bringing(inside: Vec<Bytes>, outside: Vec<Bytes>, with: &[(u16, Bytes)]) -> (Vec<Bytes>, u32) {
+    let mut fields = vec![module(1), constant(10, 0), constant(11, 0), constant(12, 2)];
+    fields.extend(inside);
+    fields.extend([end(), module(2), variable(50)]);
+    fields.extend(outside);
+    fields.push(instance(9, 1, 1, with));
+    let at = fields.len() as u32 - 1;
+    fields.push(end());
+    (fields, at)
+}
+
 #[test]
-fn cause_15_and_16() {
-    // D(p) == [](K(p, x')), with K the first or the second.
-    let inner = vec![
-        module(1),
-        constant(1, 2),
-        variable(2),
-        def(3, 1, always(n(1, &[p(0), prime(n(2, &[]))]))),
-        end(),
-    ];
-    expect(vec![(inner.clone(), 12, 3)]);
-    let d = always(n(1, &[always(lit(0)), prime(n(2, &[]))]));
-    let inner = vec![module(1), constant(1, 2), variable(2), def(3, 0, d), end()];
-    let bring = |substitute: Bytes| instance(0, 0, 1, &[(1, substitute)]);
-    let outer = |field: Bytes| [inner.clone(), vec![module(2), variable(2), field, end()]].concat();
-    accept(vec![
-        (outer(bring(p(0))), 2),
-        (outer(bring(and(p(0), p(1)))), 2),
-    ]);
-    accept(vec![(outer(bring(lit(0))), 2)]);
-    expect(vec![(outer(bring(p(1))), 15, 7)]);
-    // Instances inside instances.
-    let chain = |inside: Bytes, name: u16, with: &[(u16, Bytes)]| {
+fn cause_21() {
+    let x = || n(50, &[]);
+    let (action, temporal) = (|| prime(x()), || always(x()));
+    let k = || (12, and(p(1), p(2)));
+    let refused = |number: u32, inside: Vec<Bytes>, outside: Vec<Bytes>, with: &[(u16, Bytes)]| {
+        let (fields, at) = bringing(inside, outside, with);
+        expect(vec![(fields, number, at)]);
+    };
+    let lawful = |inside: Vec<Bytes>, outside: Vec<Bytes>, with: &[(u16, Bytes)], count: u32| {
+        accept(vec![(bringing(inside, outside, with).0, count)]);
+    };
+    let none = Vec::new;
+    // Alone: both written, and in either order.
+    refused(21, none(), none(), &[(10, action()), (11, temporal()), k()]);
+    refused(21, none(), none(), &[k(), (11, temporal()), (10, action())]);
+    refused(21, none(), none(), &[(10, temporal()), (11, action()), k()]);
+    lawful(none(), none(), &[(10, action()), (11, action()), k()], 0);
+    lawful(
+        none(),
+        none(),
+        &[(10, temporal()), (11, temporal()), k()],
+        0,
+    );
+    lawful(none(), none(), &[(10, action()), (11, x()), k()], 0);
+    lawful(none(), none(), &[(10, temporal()), (11, p(0)), k()], 0);
+    // By names that stand for themselves: both, and one of each.
+    let own = |a: Bytes, b: Bytes| vec![def(10, 0, a), def(11, 0, b)];
+    refused(21, none(), own(action(), temporal()), &[k()]);
+    refused(21, none(), own(temporal(), action()), &[k()]);
+    refused(
+        21,
+        none(),
+        vec![def(10, 0, action())],
+        &[(11, temporal()), k()],
+    );
+    refused(
+        21,
+        none(),
+        vec![def(11, 0, temporal())],
+        &[(10, action()), k()],
+    );
+    lawful(none(), own(action(), action()), &[k()], 2);
+    lawful(none(), vec![variable(10), def(11, 0, action())], &[k()], 1);
+    lawful(
+        none(),
+        vec![variable(10), def(11, 0, temporal())],
+        &[k()],
+        1,
+    );
+    // Of names used or not: no definition uses both, or none any.
+    let both = [(10, action()), (11, temporal()), k()];
+    refused(21, vec![def(20, 0, n(10, &[]))], none(), &both);
+    refused(21, vec![def(20, 1, n(12, &[p(0), lit(0)]))], none(), &both);
+    refused(
+        21,
+        vec![def(20, 0, and(n(10, &[]), n(11, &[])))],
+        none(),
+        &both,
+    );
+    // Parameters count as 0: neither theirs nor an operator's arguments mix.
+    lawful(none(), none(), &[(10, prime(p(0))), (11, p(0)), k()], 0);
+    refused(
+        21,
+        none(),
+        none(),
+        &[(10, prime(p(0))), (11, always(p(0))), k()],
+    );
+    lawful(
+        none(),
+        none(),
+        &[(10, p(0)), (11, temporal()), (12, and(p(0), p(1)))],
+        0,
+    );
+    // Not of a module that is not constant: cause 14 has been before.
+    refused(14, vec![variable(50)], none(), &both);
+    refused(14, vec![def(20, 0, prime(lit(0)))], none(), &both);
+    refused(14, vec![def(20, 0, always(lit(0)))], none(), &both);
+    let zero = [(10, lit(0)), (11, p(0)), k()];
+    lawful(vec![variable(50)], none(), &zero, 0);
+    refused(14, vec![def(20, 1, prime(p(0)))], none(), &both);
+    // Both in one substitute are cause 12.
+    refused(
+        12,
+        none(),
+        none(),
+        &[(10, and(action(), temporal())), (11, lit(0)), k()],
+    );
+}
+
+#[test]
+fn cause_21_in_its_order() {
+    let x = || n(50, &[]);
+    let both = |k: Bytes| vec![(10, prime(x())), (11, always(x())), (12, k)];
+    let lawful = || and(p(1), p(2));
+    // After 14 and all that is before it, whatever the order of the substitutes.
+    for (number, k) in [
+        (14, x()),
+        (14, and(p(1), always(lit(0)))),
+        (12, wrong()),
+        (21, lawful()),
+    ] {
+        let (fields, at) = bringing(Vec::new(), Vec::new(), &both(k.clone()));
+        expect(vec![(fields, number, at)]);
+        let mut turned = both(k);
+        turned.reverse();
+        let (fields, at) = bringing(Vec::new(), Vec::new(), &turned);
+        expect(vec![(fields, number, at)]);
+    }
+    let with = |more: (u16, Bytes)| [both(lawful()), vec![more]].concat();
+    for (number, more) in [
+        (5, (10, wrap(32, lit(0)))),
+        (9, (10, n(77, &[]))),
+        (10, (10, n(50, &[lit(0)]))),
+        (11, (10, lit(0))),
+        (11, (77, lit(0))),
+    ] {
+        let (fields, at) = bringing(Vec::new(), Vec::new(), &with(more));
+        expect(vec![(fields, number, at)]);
+    }
+    let (fields, at) = bringing(Vec::new(), vec![constant(9, 0)], &both(lawful()));
+    expect(vec![(fields, 8, at)]);
+    // Before 16: the constant module has a named instance.
+    let named = |with: &[(u16, Bytes)]| {
+        let (fields, at) = bringing(vec![instance(30, 0, 3, &[])], Vec::new(), with);
+        let fields = [vec![module(3), end()], fields].concat();
+        (fields, at + 2)
+    };
+    let (fields, at) = named(&both(lawful()));
+    expect(vec![(fields, 21, at)]);
+    let (fields, at) = named(&[(10, prime(x())), (11, x()), (12, lawful())]);
+    expect(vec![(fields, 16, at)]);
+    // A field at fault before it counts first.
+    let (fields, at) = bringing(Vec::new(), vec![theorem(wrong())], &both(lawful()));
+    expect(vec![(fields, 12, at - 1)]);
+}
+
+#[test]
+fn cause_21_of_extended_names() {
+    // Declared in a module that the constant one extends, and standing for what is extended here.
+    let inner = |declared: Bytes| {
         vec![
             module(1),
-            constant(1, 2),
-            variable(2),
-            def(3, 0, always(n(1, &[always(lit(0)), prime(n(2, &[]))]))),
+            constant(10, 0),
+            declared,
             end(),
             module(2),
-            constant(1, 2),
-            variable(2),
-            inside,
-            end(),
-            module(3),
-            variable(2),
-            instance(name, 0, 2, with),
+            extends(&[1]),
             end(),
         ]
+    };
+    let outer = |first: Bytes| {
+        vec![
+            module(3),
+            def(11, 0, always(lit(0))),
+            end(),
+            module(4),
+            extends(&[3]),
+            first,
+            instance(0, 0, 2, &[]),
+            end(),
+        ]
+    };
+    let file = |declared: Bytes, first: Bytes| [inner(declared), outer(first)].concat();
+    let action = || def(10, 0, prime(lit(0)));
+    expect(vec![(file(constant(11, 0), action()), 21, 13)]);
+    accept(vec![(file(constant(11, 0), constant(10, 0)), 1)]);
+    accept(vec![(file(constant(11, 0), def(10, 0, always(lit(1)))), 2)]);
+    // A variable there, and it is not constant.
+    expect(vec![(file(variable(11), action()), 14, 13)]);
+}
+
+#[test]
+fn cause_16() {
+    // What cause 15 was for: a 2 beside a 3 below an operator is 4 where it is written.
+    let body = |first: Bytes| always(n(1, &[first, prime(n(2, &[]))]));
+    let inner = |d: Bytes| vec![module(1), constant(1, 2), variable(2), def(3, 0, d), end()];
+    expect(vec![
+        (inner(body(lit(0))), 12, 3),
+        (inner(body(always(lit(0)))), 12, 3),
+    ]);
+    // What stays lawful where it is written stays lawful where it is brought.
+    let inner = inner(always(n(
+        1,
+        &[always(lit(0)), op(113, &[prime(n(2, &[]))])],
+    )));
+    let bring = |substitute: Bytes| instance(0, 0, 1, &[(1, substitute)]);
+    let outer = |field: Bytes| [inner.clone(), vec![module(2), variable(2), field, end()]].concat();
+    for substitute in [p(0), p(1), and(p(0), p(1)), lit(0)] {
+        accept(vec![(outer(bring(substitute)), 2)]);
+    }
+    // Instances inside instances.
+    let chain = |inside: Bytes, name: u16, with: &[(u16, Bytes)]| {
+        let last = vec![module(3), variable(2), instance(name, 0, 2, with), end()];
+        let middle = vec![module(2), constant(1, 2), variable(2), inside, end()];
+        [inner.clone(), middle, last].concat()
     };
     let same = || instance(0, 0, 1, &[]);
     let named = || instance(8, 0, 1, &[]);
     accept(vec![
         (chain(same(), 0, &[(1, p(0))]), 3),
-        (chain(same(), 7, &[(1, p(0))]), 3),
+        (chain(same(), 7, &[(1, p(1))]), 3),
     ]);
     expect(vec![
-        (chain(same(), 0, &[(1, p(1))]), 15, 12),
-        (chain(named(), 0, &[(1, p(1))]), 15, 12),
         (chain(named(), 0, &[(1, p(0))]), 16, 12),
-        (chain(named(), 7, &[(1, p(0))]), 16, 12),
-        (chain(named(), 7, &[(1, p(1))]), 15, 12),
+        (chain(named(), 7, &[(1, p(1))]), 16, 12),
     ]);
     // A named instance that brings nothing, and one that is extended.
     expect(vec![

@@ -145,8 +145,8 @@ fn depth(random: &mut Random) -> usize {
     random.below(4) + 1
 }
 
-/// A temporal operator over a declared operator with arguments of several levels: whether it stays
-/// level-correct in an instance hangs on the operator's substitute.
+/// A declared operator with arguments of several levels below another operator: what becomes of it in
+/// an instance hangs on the operator's substitute.
 fn delicate(random: &mut Random, words: &Vocabulary) -> Bytes {
     let wide: Vec<(u16, u8)> = words
         .operators
@@ -168,7 +168,13 @@ fn delicate(random: &mut Random, words: &Vocabulary) -> Bytes {
             }
         })
         .collect();
-    always(n(name, &arguments))
+    let inner = n(name, &arguments);
+    match random.below(4) {
+        0 => inner,
+        1 => op(113, &[inner]),
+        2 => op(115, &[inner, lit(0)]),
+        _ => always(inner),
+    }
 }
 
 fn instance_field(random: &mut Random, program: &Program, words: &Vocabulary) -> Bytes {
@@ -194,6 +200,13 @@ fn instance_field(random: &mut Random, program: &Program, words: &Vocabulary) ->
         let count = parameters as usize + declaration.count as usize;
         let deep = random.below(3);
         let substitute = expression(random, words, count, 0, deep);
+        // A constant module may take any of them, but not a 2 beside a 3.
+        let high = module.constant && declaration.count == 0;
+        let substitute = match random.below(8) {
+            0 | 1 if high => prime(substitute),
+            2 | 3 if high => always(substitute),
+            _ => substitute,
+        };
         with.push((declaration.name, substitute));
     }
     instance(own, parameters, module.name, &with)
@@ -310,4 +323,44 @@ pub fn delicate_file(random: &mut Random) -> Bytes {
         file.extend(end());
     }
     file
+}
+
+/// A file with an instance of a constant module, and the level of what is put for each of its names:
+/// written, or standing for itself.
+pub fn mixing_file(random: &mut Random) -> (Bytes, Vec<u8>) {
+    const X: u16 = 50;
+    let count = random.below(4) as u16 + 1;
+    let mut inside = Bytes::new();
+    let (mut outside, mut with) = (variable(X), Vec::new());
+    let mut levels = Vec::new();
+    for name in 1..=count {
+        inside.extend(constant(name, 0));
+        let level = random.pick(&[0, 1, 2, 2, 2, 3, 3, 3]);
+        levels.push(level);
+        let x = || wrap(level as usize, n(X, &[]));
+        let expr = match level {
+            0 => lit(name),
+            1 => x(),
+            2 => and(x(), prime(x())),
+            _ => and(always(x()), lit(0)),
+        };
+        match random.below(3) {
+            0 => outside.extend(def(name, 0, expr)),
+            _ => with.insert(random.below(with.len() + 1), (name, expr)),
+        }
+    }
+    // Definitions of the constant module, over some of its names or none.
+    for number in 0..random.below(3) {
+        let name = || n(1, &[]);
+        let body = match random.below(4) {
+            0 => lit(0),
+            1 => name(),
+            2 => and(name(), n(count, &[])),
+            _ => op(97, &[n(count, &[]), p(0), name()]),
+        };
+        inside.extend(def(20 + number as u16, 1, body));
+    }
+    let last = instance(random.pick(&[0, 9]), 0, 1, &with);
+    let file = [module(1), inside, end(), module(2), outside, last, end()];
+    (file.concat(), levels)
 }

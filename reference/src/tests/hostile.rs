@@ -57,27 +57,24 @@ fn tree_of(bytes: usize, leaf: &dyn Fn(usize) -> Bytes) -> Bytes {
     tree(leaves, leaf)
 }
 
-fn demands(index: usize, slots: u8) -> Bytes {
-    // [] of a set of parameters, beside a transition or not.
+fn masked(index: usize, slots: u8) -> Bytes {
+    // [] or ENABLED of a set of parameters: two masks that both leave something out.
     let set = index % (1 << slots);
     let parts: Vec<Bytes> = (0..slots).filter(|i| set >> i & 1 == 1).map(p).collect();
-    let mut inner = parts.into_iter().fold(lit(0), and);
-    if index >> slots & 1 == 1 {
-        inner = and(inner, and(always(lit(0)), prime(lit(0))));
+    let inner = parts.into_iter().fold(lit(0), and);
+    match index >> slots & 1 {
+        0 => always(inner),
+        _ => always(op(113, &[inner])),
     }
-    always(inner)
 }
 
 #[test]
 fn many_instances_of_a_large_body() {
     let plain = |i: usize| p((i % 3) as u8);
     let calls = |_: usize| n(1, &[p(0), p(1), p(2)]);
-    let wide = |i: usize| demands(i, 3);
-    let leaves: [(&str, &dyn Fn(usize) -> Bytes); 3] = [
-        ("parameters", &plain),
-        ("calls", &calls),
-        ("demands", &wide),
-    ];
+    let wide = |i: usize| masked(i, 3);
+    let leaves: [(&str, &dyn Fn(usize) -> Bytes); 3] =
+        [("parameters", &plain), ("calls", &calls), ("masks", &wide)];
     for (what, leaf) in leaves {
         let mut file = [
             module(1),
@@ -276,18 +273,18 @@ fn many_names() {
 }
 
 #[test]
-fn demanding_bodies() {
-    let body = tree_of(30_000, &|i| demands(i, 3));
+fn masked_bodies() {
+    let body = tree_of(30_000, &|i| masked(i, 3));
     let file = [module(1), def(1, 3, body), end()].concat();
-    assert_eq!(checked("a body full of demands", &file[..]), Ok(1));
+    assert_eq!(checked("a body full of masks", &file[..]), Ok(1));
     let mut file = module(1);
-    file.extend(def(1, 3, tree(16, &|i| demands(i, 3))));
+    file.extend(def(1, 3, tree(16, &|i| masked(i, 3))));
     for d in 2..=100 {
         let call = |_: usize| n(d - 1, &[p(0), p(1), p(2)]);
         file.extend(def(d, 3, tree(25, &call)));
     }
     file.extend(end());
-    assert_eq!(checked("calls full of demands", &file), Ok(100));
+    assert_eq!(checked("calls full of masks", &file), Ok(100));
 }
 
 #[test]

@@ -14,6 +14,22 @@ fn accepted() -> Bytes {
     .concat()
 }
 
+/// The accepted file, and an instance of a constant module with a 2 and a 3 put for its names.
+fn mixed_substitutes() -> Bytes {
+    [
+        accepted(),
+        module(5),
+        constant(6, 0),
+        constant(7, 0),
+        end(),
+        module(8),
+        extends(&[1]),
+        instance(0, 0, 5, &[(6, prime(n(2, &[]))), (7, always(n(4, &[])))]),
+        end(),
+    ]
+    .concat()
+}
+
 fn marked(length: usize) -> Vec<u8> {
     (0..length).map(|place| (place % 200) as u8 + 20).collect()
 }
@@ -45,6 +61,10 @@ fn check_outcomes() {
         let file = accepted();
         let cut = &file[..file.len() - 3];
         assert_eq!(check(cut, &mut cards), Err(Cause::Order.at(4)));
+        assert_eq!(cards, zeroed(length));
+        let mut cards = marked(length);
+        let refusal = Err(Cause::MixedSubstitutes.at(11));
+        assert_eq!(check(&mixed_substitutes(), &mut cards), refusal);
         assert_eq!(cards, zeroed(length));
     }
     for length in [0, 1, 31_999] {
@@ -140,6 +160,8 @@ fn packed_replies() {
     assert_eq!(packed_check(&file, &mut cards), 2);
     assert_eq!(packed_check(&file[..21], &mut cards), 0x8003_0003);
     assert_eq!(packed_check(&file, &mut [0; 10]), 0x8001_0000);
+    let refused = packed_check(&mixed_substitutes(), &mut cards);
+    assert_eq!(refused, 0x8015_000B);
     assert_eq!(packed_level(&file, &mut cards, 1, &prime(lit(0)), &[]), 2);
     assert_eq!(
         packed_level(&file, &mut cards, 2, &lit(0), &[]),

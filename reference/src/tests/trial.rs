@@ -83,8 +83,10 @@ fn starred_lines() {
     assert_eq!(level_of(&always(prime(x())), &[]), 4);
     assert_eq!(level_of(&n(F, &[prime(prime(x()))]), &[]), 0);
     let g = n(G, &[p(0), p(1)]);
-    assert_eq!(level_of(&g, &[2, 3]), 3);
+    assert_eq!(level_of(&g, &[2, 3]), 4);
+    assert_eq!(level_of(&g, &[3, 2]), 4);
     assert_eq!(level_of(&g, &[2, 0]), 4);
+    assert_eq!(level_of(&g, &[1, 3]), 3);
     assert_eq!(level_of(&op(140, &[b(0)]), &[]), 3);
     assert_eq!(level_of(&op(140, &[prime(b(0))]), &[]), 4);
 }
@@ -96,10 +98,11 @@ fn cards_of_the_trial_file() {
     let g: Vec<u8> = (0..25)
         .map(|entry| {
             let (a, b) = (entry % 5, entry / 5);
-            if a == 4 || b == 4 || a.max(b) == 2 {
-                4
-            } else {
+            let taken = |level| matches!(level, 0 | 1 | 3);
+            if taken(a) && taken(b) {
                 3
+            } else {
+                4
             }
         })
         .collect();
@@ -111,21 +114,114 @@ fn cards_of_the_trial_file() {
 fn module_n() {
     const K: u16 = 30;
     const U: u16 = 31;
-    let d = always(n(K, &[prime(n(U, &[])), always(n(U, &[]))]));
-    let first = [module(8), constant(K, 2), variable(U), def(32, 0, d), end()].concat();
+    let u = || n(U, &[]);
+    let with = |d: Bytes| [module(8), constant(K, 2), variable(U), def(32, 0, d), end()].concat();
+    let mixed = with(always(n(K, &[prime(u()), always(u())])));
+    assert_eq!(verdict(&mixed), Err((12, 3)));
+    // Without the transition it is lawful, and so is every instance.
+    let first = with(always(n(K, &[u(), always(u())])));
     assert_eq!(cards(&first)[0], 3);
-    let taking = |substitute| {
+    for substitute in [p(0), p(1), and(p(0), p(1))] {
         let other = [
             module(9),
             variable(U),
             instance(0, 0, 8, &[(K, substitute)]),
             end(),
         ];
-        verdict(&[first.clone(), other.concat()].concat())
-    };
-    assert_eq!(taking(p(0)), Err((15, 7)));
-    assert_eq!(taking(p(1)), Ok(2));
-    assert_eq!(taking(and(p(0), p(1))), Ok(2));
+        let file = [first.clone(), other.concat()].concat();
+        assert_eq!(verdict(&file), Ok(2));
+        assert_eq!(cards(&file)[125], 3);
+    }
+}
+
+/// The level of two arguments: the highest, and 4 of a 2 and a 3.
+fn mixed(a: u8, b: u8) -> u32 {
+    match (a, b) {
+        (2, 3) | (3, 2) => 4,
+        _ => a.max(b) as u32,
+    }
+}
+
+#[test]
+fn action_and_temporal_do_not_mix() {
+    // Every constant built-in of two arguments or more, every binder over a set.
+    for (a, b) in (0..5).flat_map(|a| (0..5).map(move |b| (a, b))) {
+        let given = [a, b];
+        for code in (48..=95).chain(132..=139) {
+            let pair = op(code, &[p(0), p(1)]);
+            assert_eq!(level_of(&pair, &given), mixed(a, b), "{code} at {a}, {b}");
+        }
+        for code in 96..=103 {
+            for (left, right) in [(0, 1), (0, 2), (1, 2), (2, 0), (2, 1), (1, 0)] {
+                let mut parts = [lit(0), lit(0), lit(0)];
+                parts[left] = p(0);
+                parts[right] = p(1);
+                assert_eq!(level_of(&op(code, &parts), &given), mixed(a, b), "{code}");
+            }
+        }
+        // Far apart.
+        let far = and(
+            wrap(12, and(p(0), n(X, &[]))),
+            op(97, &[n(Y, &[]), lit(1), op(128, &[wrap(9, p(1))])]),
+        );
+        let expected = mixed(a.max(1), b.max(1));
+        assert_eq!(level_of(&far, &given), expected, "far apart at {a}, {b}");
+    }
+    // Rows with masks stay: ENABLED and [] hide what is below them.
+    let action = || prime(n(X, &[]));
+    let temporal = || always(n(X, &[]));
+    assert_eq!(level_of(&and(action(), temporal()), &[]), 4);
+    assert_eq!(level_of(&and(op(113, &[action()]), temporal()), &[]), 3);
+    let box_action = op(120, &[action(), n(X, &[])]);
+    assert_eq!(level_of(&and(box_action.clone(), temporal()), &[]), 3);
+    assert_eq!(level_of(&and(box_action, action()), &[]), 4);
+    assert_eq!(level_of(&op(122, &[temporal(), action()]), &[]), 4);
+    assert_eq!(level_of(&op(132, &[action(), always(b(0))]), &[]), 4);
+    assert_eq!(level_of(&op(132, &[temporal(), prime(b(0))]), &[]), 4);
+    // What is dropped mixes with nothing.
+    assert_eq!(level_of(&n(F, &[and(action(), temporal())]), &[]), 0);
+    assert_eq!(level_of(&and(n(F, &[action()]), temporal()), &[]), 3);
+}
+
+#[test]
+fn declared_operators_do_not_mix() {
+    const K: u16 = 30;
+    for (count, code) in [(2u8, 48u8), (3, 96)] {
+        let parameters: Vec<Bytes> = (0..count).map(p).collect();
+        let file = [
+            module(1),
+            constant(K, count),
+            def(7, count, n(K, &parameters)),
+            def(8, count, op(code, &parameters)),
+            def(9, count, always(n(K, &parameters))),
+            end(),
+        ];
+        let cards = cards(&file.concat());
+        let (card, other) = (&cards[..125], &cards[125..250]);
+        assert_eq!(card, other);
+        assert_eq!(
+            (card[2 + 5 * 3], card[3 + 5 * 2], card[3 + 5 * 3]),
+            (4, 4, 3)
+        );
+        assert_eq!((card[2 + 5 * 2], card[1 + 5 * 3]), (2, 3));
+        assert_eq!((cards[250 + 3 + 5 * 3], cards[250 + 2 + 5 * 3]), (3, 4));
+    }
+    let file = [
+        module(1),
+        variable(X),
+        constant(K, 1),
+        constant(31, 2),
+        end(),
+    ]
+    .concat();
+    let k = |e: Bytes| n(K, &[e]);
+    let (action, temporal) = (prime(n(X, &[])), always(n(X, &[])));
+    let both = n(31, &[k(k(action.clone())), k(temporal.clone())]);
+    let mut cards = vec![7; Limits::CARDS];
+    for (e, expected) in [(both, 4), (k(action), 2), (k(temporal), 3)] {
+        assert_eq!(level(&file, &mut cards, 1, &e, &[]), Ok(expected));
+        assert_eq!(long_way(&file, 1, &e, &[], 1000), Some(Ok(expected)));
+    }
 }
 
 #[test]

@@ -64,7 +64,7 @@ fn trial_lines() -> Vec<Named> {
             op(140, &[g(b(0), prime(b(0)))]),
             0,
         ),
-        line("D of N", N, n(name::D, &[]), 0),
+        line("D of N, under ENABLED", N, n(name::D, &[]), 0),
         line("I!D", BRINGS, d(name::I, &[]), 0),
         line("J!D over p", BRINGS, d(name::J, &[p(0)]), 1),
         line(
@@ -283,7 +283,7 @@ fn outputs() -> Vec<Named> {
     for (label, module, expr, length) in [
         ("a literal", LINES, lit(1), 3),
         ("c + 3", LINES, op(52, &[n(name::C, &[]), lit(3)]), 9),
-        ("J!D of a bound variable", BRINGS, bound, 16),
+        ("J!D of a bound variable", BRINGS, bound, 18),
     ] {
         for room in rooms(length).map(|room| room.min(OUTPUT)) {
             let label = format!("{label} into {room}");

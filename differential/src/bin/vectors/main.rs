@@ -16,7 +16,7 @@ mod queries;
 use differential::checker::refusal;
 use differential::random::Random;
 use differential::syntax::{self, brought, instance, lit, n, op, p, Field};
-use differential::{accepted, faults, limits, rows, substitutes};
+use differential::{accepted, faults, limits, mixed_substitutes, mixing, rows, substitutes};
 use reference::{listing, packed_check};
 use std::collections::HashSet;
 use std::fmt::Write;
@@ -28,7 +28,8 @@ use std::{env, fs, io};
 struct Vector {
     label: String,
     file: Vec<u8>,
-    /// Whether a check of it is lent enough memory whatever its turn: the samples and those of codes.
+    /// Whether a check of it is lent enough memory whatever its turn: the samples, those of codes, and
+    /// those in which a 2 and a 3 meet.
     whole: bool,
 }
 
@@ -156,8 +157,9 @@ fn instance_operators() -> Vec<(&'static str, Vec<u8>)> {
     ]
 }
 
-/// Every planned fault, both sides of every limit, every kind of substitute, cut fields, the table
-/// of codes and those just outside it, accepted files of several shapes, and the samples.
+/// Every planned fault, both sides of every limit, every kind of substitute, every way of a 2 and a 3 to
+/// meet, cut fields, the table of codes and those just outside it, accepted files of several shapes, and
+/// the samples.
 fn vectors(samples: &Path) -> io::Result<Vec<Vector>> {
     let mut all = Vec::new();
     let mut add = |label: String, file, whole| all.push(Vector { label, file, whole });
@@ -178,6 +180,15 @@ fn vectors(samples: &Path) -> io::Result<Vec<Vector>> {
     for (number, label) in substitutes::labels().into_iter().enumerate() {
         let mut files = built(4, |random| substitutes::build(number, random).file);
         add(label, files.swap_remove(0), false);
+    }
+    for (number, label) in mixing::labels().into_iter().enumerate() {
+        let mut files = built(4, |random| mixing::build(number, random).file);
+        add(format!("2 and 3: {label}"), files.swap_remove(0), true);
+    }
+    for (number, label) in mixed_substitutes::labels().into_iter().enumerate() {
+        let mut files = built(4, |random| mixed_substitutes::build(number, random).file);
+        let label = format!("substitutes, 2 and 3: {label}");
+        add(label, files.swap_remove(0), true);
     }
     for (label, file) in cuts().into_iter().chain(instance_operators()) {
         add(label.into(), file, false);
@@ -217,8 +228,8 @@ fn three(number: usize) -> [u8; 3] {
 /// The memory that a check is lent a part of, and how much of it, in turn: at the limit, above it,
 /// and now and then below it.
 const MEMORY: usize = 40_000;
-/// The least that is enough.
-const CARDS: usize = 32_000;
+/// Memory that is enough, in turn.
+const ENOUGH: [usize; 3] = [32_000, 40_000, 32_001];
 /// The output that an expansion is lent a part of: more than the longest takes.
 const OUTPUT: usize = 66_000;
 const LENT: [usize; 11] = [
@@ -302,7 +313,7 @@ fn checks(samples: &Path) -> io::Result<Stored> {
             continue;
         }
         let lent = match whole {
-            true => CARDS,
+            true => ENOUGH[number % ENOUGH.len()],
             false => LENT[number % LENT.len()],
         };
         stored.number(lent);

@@ -1,7 +1,9 @@
 //! Queries for the gate: the trial lines of paper 01, both sides of every rule about a query, the
 //! samples, and generated ones of every kind of answer.
 
-use crate::{expansions, long, marked, module, reply_line, sample_files, three, MEMORY, OUTPUT};
+use crate::{
+    expansions, long, marked, module, reply_line, sample_files, three, ENOUGH, MEMORY, OUTPUT,
+};
 use differential::cases::{Call, Case};
 use differential::checker::Reference;
 use differential::model::Model;
@@ -13,6 +15,10 @@ use differential::{accepted, queries};
 use std::collections::BTreeMap;
 use std::io;
 use std::path::Path;
+
+/// Most bytes of an expression and most levels that the gate's program has room for.
+const EXPRESSION: usize = 40_000;
+const LEVELS: usize = 300;
 
 /// A query with a name to find it by.
 pub struct Query {
@@ -49,6 +55,7 @@ impl Query {
             ),
             Call::Check => unreachable!("kept out"),
         };
+        assert!(expr.len() <= EXPRESSION && levels.len() <= LEVELS && self.lent <= MEMORY);
         let mut bytes = Vec::new();
         for number in [kind, first, second] {
             bytes.extend(three(number as usize));
@@ -117,15 +124,16 @@ pub mod name {
     pub const J: u16 = 10;
 }
 
-/// Modules of that file: the lines' own, N, one that brings N's definition, and one beside them.
+/// Modules of that file: the lines' own, N with its action under ENABLED, one that brings N's
+/// definition, and one beside them.
 pub const LINES: u16 = 1;
 pub const N: u16 = 2;
 pub const BRINGS: u16 = 3;
 pub const BESIDE: u16 = 4;
 
-fn module_n() -> Vec<Field> {
-    let u = || n(name::U, &[]);
-    let k = n(name::K, &[prime(u()), always(u())]);
+/// Module N over the first argument of its K.
+fn module_n(first: Expr) -> Vec<Field> {
+    let k = n(name::K, &[first, always(n(name::U, &[]))]);
     vec![
         Field::Module(N),
         Field::Constant(name::K, 2),
@@ -145,7 +153,7 @@ pub fn trial_file() -> Vec<Field> {
         Field::Definition(name::G, 2, always(and(p(0), p(1)))),
         Field::End,
     ];
-    fields.extend(module_n());
+    fields.extend(module_n(op(113, &[prime(n(name::U, &[]))])));
     let both = [(name::K, and(p(0), p(1)))];
     let over = [(name::K, and(p(1), p(2))), (name::U, p(0))];
     fields.extend([
@@ -195,13 +203,118 @@ fn trial_lines() -> Vec<(&'static str, Call)> {
         ("[]x'", line(always(prime(x())))),
         ("F((x')')", line(n(name::F, &[prime(prime(x()))]))),
         ("G at (2, 3)", level(LINES, &g(p(0), p(1)), &[2, 3])),
+        ("G at (3, 2)", level(LINES, &g(p(0), p(1)), &[3, 2])),
+        ("G at (3, 3)", level(LINES, &g(p(0), p(1)), &[3, 3])),
         ("G at (2, 0)", level(LINES, &g(p(0), p(1)), &[2, 0])),
         ("G(x', []x)", line(g(prime(x()), always(x())))),
         ("G(x', 0)", line(g(prime(x()), lit(0)))),
         ("\\EE z: z", line(hidden(b(0)))),
         ("\\EE z: z'", line(hidden(prime(b(0))))),
-        ("D of N", level(N, &n(name::D, &[]), &[])),
+        ("D of N, under ENABLED", level(N, &n(name::D, &[]), &[])),
     ]
+}
+
+/// A 2 and a 3 in one expression, near and far, and what keeps them apart.
+fn mixing() -> Vec<(String, Call)> {
+    let x = || n(name::X, &[]);
+    let (action, temporal) = (|| prime(x()), || always(x()));
+    let line = |expr: Expr| level(LINES, &expr, &[]);
+    let deep = |inner| wrap(12, inner);
+    let wide = || tree_of(30_000, &|_| n(name::X, &[]));
+    let f = |inner| n(name::F, &[inner]);
+    let mut all = vec![
+        ("x' /\\ []x", line(and(action(), temporal()))),
+        ("[]x /\\ x'", line(and(temporal(), action()))),
+        (
+            "far apart",
+            line(and(deep(and(action(), x())), deep(temporal()))),
+        ),
+        (
+            "30,000 bytes apart",
+            line(and(action(), and(wide(), temporal()))),
+        ),
+        ("30,000 bytes and []x", line(and(wide(), temporal()))),
+        ("[](x' /\\ []x)", line(always(and(action(), temporal())))),
+        (
+            "ENABLED (x' /\\ []x)",
+            line(op(113, &[and(action(), temporal())])),
+        ),
+        (
+            "ENABLED x' /\\ []x",
+            line(and(op(113, &[action()]), temporal())),
+        ),
+        (
+            "[][x']_x /\\ []x",
+            line(and(op(120, &[action(), x()]), temporal())),
+        ),
+        (
+            "[][x']_x /\\ x'",
+            line(and(op(120, &[action(), x()]), action())),
+        ),
+        (
+            "WF_x(x') /\\ x'",
+            line(and(op(124, &[x(), action()]), action())),
+        ),
+        ("F(x' /\\ []x)", line(f(and(action(), temporal())))),
+        ("F(x') /\\ []x", line(and(f(action()), temporal()))),
+        (
+            "\\E z : x' /\\ []z",
+            line(op(128, &[and(action(), always(b(0)))])),
+        ),
+        (
+            "\\EE z : z /\\ []z",
+            line(op(140, &[and(b(0), always(b(0)))])),
+        ),
+        (
+            "\\EE z : z' /\\ []z",
+            line(op(140, &[and(prime(b(0)), always(b(0)))])),
+        ),
+        (
+            "K over (p, q) at (2, 3)",
+            level(N, &n(name::K, &[p(0), p(1)]), &[2, 3]),
+        ),
+        (
+            "K over (q, p) at (2, 3)",
+            level(N, &n(name::K, &[p(1), p(0)]), &[2, 3]),
+        ),
+        (
+            "K over (p, q) at (2, 2)",
+            level(N, &n(name::K, &[p(0), p(1)]), &[2, 2]),
+        ),
+        (
+            "K in K",
+            level(
+                N,
+                &n(name::K, &[p(0), n(name::K, &[lit(0), p(1)])]),
+                &[3, 2],
+            ),
+        ),
+    ]
+    .into_iter()
+    .map(|(label, call)| (label.to_string(), call))
+    .collect::<Vec<_>>();
+    for code in [48, 95, 132, 139] {
+        for levels in [[2, 3], [3, 2], [2, 2], [3, 3], [4, 0]] {
+            let call = level(LINES, &op(code, &[p(0), p(1)]), &levels);
+            all.push((format!("code {code} at {levels:?}"), call));
+        }
+    }
+    for code in [96, 103] {
+        let three = op(code, &[p(0), p(1), p(2)]);
+        for levels in [
+            [2, 3, 0],
+            [2, 0, 3],
+            [0, 2, 3],
+            [3, 2, 1],
+            [3, 0, 2],
+            [1, 3, 2],
+            [2, 3, 2],
+        ] {
+            let call = level(LINES, &three, &levels);
+            all.push((format!("code {code} at {levels:?}"), call));
+        }
+    }
+    all
 }
 
 /// Queries of the trial file on both sides of every rule.
@@ -397,10 +510,14 @@ fn likeness() -> Vec<(&'static str, Vec<u8>, Call)> {
         ask("prime and UNCHANGED", 3, 4),
         ask("prime and ENABLED", 3, 5),
         ask("unlike at 0 only", 6, 7),
-        ask("unlike at 4 only", 8, 9),
+        ask("unlike at 2 and 4 only", 8, 9),
         ask("the same the other way round", 9, 8),
         ask("three parameters in another order", 10, 11),
-        ask("three parameters, unlike with the last at 4 only", 12, 13),
+        ask(
+            "three parameters, unlike with the last at 2 or 4 only",
+            12,
+            13,
+        ),
     ]
 }
 
@@ -435,39 +552,56 @@ fn bodies() -> Vec<(String, Vec<u8>, Call)> {
 
 /// Queries of files that are refused: the file comes first.
 pub fn refused_files() -> Vec<(&'static str, Vec<u8>, Call)> {
-    let mut first = module_n();
-    first.extend([
+    let u = || n(name::U, &[]);
+    let twelve = syntax::file(&module_n(prime(u())));
+    // A constant module, with an action for one of its names and a temporal formula for the other.
+    let mixed = [(name::C, prime(u())), (name::D, always(u()))];
+    let twenty_one = syntax::file(&[
+        Field::Module(N),
+        Field::Constant(name::C, 0),
+        Field::Constant(name::D, 0),
+        Field::Definition(name::F, 0, n(name::C, &[])),
+        Field::End,
         Field::Module(BRINGS),
         Field::Variable(name::U),
-        instance(0, 0, N, &[(name::K, p(0))]),
+        instance(0, 0, N, &mixed),
         Field::End,
     ]);
-    let fifteen = syntax::file(&first);
     let open = syntax::file(&trial_file()[..6]);
     let wrong = level_of(99, vec![], &[9, 9, 9, 9]);
     let alike = Call::Alike { a: 99, b: 99 };
     let body = Call::Body { d: 99 };
     vec![
         (
-            "trial line: K takes its first argument",
-            fifteen.clone(),
+            "trial line: N, refused at D",
+            twelve.clone(),
             level(N, &lit(0), &[]),
         ),
+        ("refused, and no such module", twelve.clone(), wrong.clone()),
+        ("refused, alike", twelve.clone(), alike.clone()),
+        ("refused, body", twelve, body.clone()),
         (
-            "refused, and no such module",
-            fifteen.clone(),
+            "an instance that mixes",
+            twenty_one.clone(),
+            level(BRINGS, &n(name::F, &[]), &[]),
+        ),
+        (
+            "an instance that mixes, and no such module",
+            twenty_one.clone(),
             wrong.clone(),
         ),
-        ("refused, alike", fifteen.clone(), alike.clone()),
-        ("refused, body", fifteen, body.clone()),
+        (
+            "an instance that mixes, alike",
+            twenty_one.clone(),
+            alike.clone(),
+        ),
+        ("an instance that mixes, body", twenty_one, body.clone()),
         ("ends inside a module", open.clone(), wrong),
         ("ends inside a module, alike", open, alike),
         ("empty file, body", Vec::new(), body),
     ]
 }
 
-/// Memory lent for generated queries, in turn.
-const LENT: [usize; 3] = [32_000, 40_000, 32_001];
 /// At most so many generated queries of one kind of answer, and of expansions that show little.
 const EACH: usize = 12;
 const FEW: usize = 2;
@@ -536,7 +670,7 @@ fn generated() -> Vec<Query> {
                     label: format!("generated, {what}, {count}"),
                     file,
                     call,
-                    lent: LENT[*count % LENT.len()],
+                    lent: ENOUGH[*count % ENOUGH.len()],
                 });
             }
         }
@@ -544,8 +678,8 @@ fn generated() -> Vec<Query> {
     all
 }
 
-/// For each sample that is accepted: its last definition over parameters at 0, 1 and 2, its body,
-/// and whether it is like the first.
+/// For each sample that is accepted: its last definition over parameters at 0, 1 and 2, and at 2 and 3,
+/// its body, and whether it is like the first.
 fn of_samples(samples: &Path) -> io::Result<Vec<Query>> {
     let mut all = Vec::new();
     for (label, file) in sample_files(samples)? {
@@ -570,11 +704,11 @@ fn of_samples(samples: &Path) -> io::Result<Vec<Query>> {
                     0 => Expr::Name(operator.name, arguments),
                     _ => Expr::Brought(within, operator.name, arguments),
                 };
-                calls.push(level(
-                    module.name,
-                    &expr,
-                    &[0, 1, 2][..operator.count.into()],
-                ));
+                let count = operator.count.into();
+                calls.push(level(module.name, &expr, &[0, 1, 2][..count]));
+                if count > 1 {
+                    calls.push(level(module.name, &expr, &[2, 3, 0][..count]));
+                }
             }
         }
         all.extend(calls.into_iter().map(|call| Query {
@@ -601,6 +735,9 @@ pub fn all(samples: &Path) -> io::Result<Vec<Query>> {
     };
     for (label, call) in trial_lines() {
         add(format!("trial line: {label}"), &trial, call, 32_000);
+    }
+    for (label, call) in mixing() {
+        add(format!("2 and 3: {label}"), &trial, call, 32_000);
     }
     for (label, call) in rules() {
         add(label.into(), &trial, call, 32_000);

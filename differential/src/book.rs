@@ -1,0 +1,408 @@
+//! A second judge of what hangs on levels, as plain as can be: every entry of every card worked out by
+//! itself, and the causes 12 to 16 and 21. The other causes of a file do not hang on levels, so the
+//! reference is asked for them with all levels taken out. The rules may be misread on purpose.
+
+use crate::accepted::LARGEST;
+use crate::model::{Meaning, Model, Module, Operator, Scope, CARDS};
+use crate::rows;
+use crate::syntax::{self, Expr, Field};
+use std::rc::Rc;
+
+/// Most parameters of a written substitute, the instance's and the operator's.
+const SLOTS: usize = 6;
+
+/// A wrong reading of request L5.
+#[derive(Clone, Copy, Debug, PartialEq, Eq)]
+pub enum Misreading {
+    /// Of a 2 and a 3 the highest is 3.
+    NoMixing,
+    /// Only arguments beside each other mix.
+    NeighboursMix,
+    /// Nothing mixes in a built-in of three arguments.
+    NotInThree,
+    /// Nothing mixes in a declared operator.
+    NotInDeclared,
+    /// Nothing mixes in a binder over a set.
+    NotInBinders,
+    /// A card has one ceiling for each parameter: an entry is the highest of what each gives alone.
+    OneCeiling,
+    /// A level query takes 3 for the highest of a 2 and a 3.
+    NotInQueries,
+    /// Cause 21 is not judged.
+    NoTwentyOne,
+    /// It is judged of modules that are not constant too, before 14, which would hold of them anyway.
+    AnyModule,
+    /// It is judged before 14.
+    BeforeFourteen,
+    /// It is judged after 15.
+    AfterFifteen,
+    /// It is judged after 16.
+    AfterSixteen,
+    /// Names that stand for themselves do not count for it.
+    WrittenOnly,
+    /// Names that no definition of the module uses do not count for it.
+    UsedOnly,
+    /// Only substitutes of names declared one after the other count for it.
+    NeighboursOnly,
+    /// It takes the instance's parameters at 2.
+    ParametersAtTwo,
+}
+
+/// Where levels meet.
+#[derive(Clone, Copy, PartialEq, Eq)]
+enum Meeting {
+    BuiltIn(u8),
+    Declared,
+}
+
+/// A body, where it is read, and the instances that brought it, the innermost first.
+#[derive(Clone)]
+struct Text {
+    body: Rc<Expr>,
+    scope: Rc<Scope>,
+    chain: Vec<usize>,
+}
+
+/// An INSTANCE that was read.
+struct Instance {
+    scope: Rc<Scope>,
+    parameters: usize,
+    with: Vec<(u16, Expr)>,
+    /// The numbers of what it brings in its module, and of the first of them here.
+    order: Vec<usize>,
+    start: usize,
+}
+
+/// An accepted file.
+pub struct Book {
+    misreading: Option<Misreading>,
+    pub model: Model,
+    texts: Vec<Text>,
+    instances: Vec<Instance>,
+}
+
+/// Where an entry stands in a card.
+fn entry(levels: &[u8]) -> usize {
+    levels.iter().rev().fold(0, |e, &l| 5 * e + l as usize)
+}
+
+/// The file with every level at 0 and of the same names and counts. What is left are the causes 2 to 11
+/// and 16.
+pub fn without_levels(file: &[u8]) -> Vec<u8> {
+    fn plain(expr: &mut Expr) {
+        if let Expr::BuiltIn(code, arguments) = expr {
+            *code = match (*code, arguments.len()) {
+                (112..=127, 1) => 16,
+                (112..=127, _) => 48,
+                (140.., _) => 128,
+                _ => *code,
+            };
+        }
+        expr.arguments_mut().iter_mut().for_each(plain);
+    }
+    let mut fields = syntax::fields(file);
+    for field in &mut fields {
+        field.expressions_mut().into_iter().for_each(plain);
+        match field {
+            Field::Variable(name) => *field = Field::Constant(*name, 0),
+            Field::Assume(formula) => *field = Field::Theorem(formula.clone()),
+            _ => (),
+        }
+    }
+    syntax::file(&fields)
+}
+
+/// Judges a file. `None` if it is too near its largest size for the levels to be taken out.
+pub fn judge(file: &[u8], misreading: Option<Misreading>) -> Option<Result<Book, (u32, u32)>> {
+    if file.is_empty() || file.len() > LARGEST {
+        return Some(Err((2, 0)));
+    }
+    let plain = without_levels(file);
+    if plain.len() > LARGEST {
+        return None;
+    }
+    let rest = reference::check(&plain, &mut vec![0; CARDS]).err();
+    let rest = rest.map(|refusal| (refusal.number, refusal.place));
+    let mut book = Book {
+        misreading,
+        model: Model::default(),
+        texts: Vec::new(),
+        instances: Vec::new(),
+    };
+    for (number, field) in syntax::fields(file).iter().enumerate() {
+        let here = rest.filter(|&(_, place)| place as usize == number);
+        if let Some(other) = here.filter(|&(cause, _)| cause != 16) {
+            return Some(Err(other));
+        }
+        if let Some(cause) = book.field(field, here.is_some()) {
+            return Some(Err((cause, number as u32)));
+        }
+    }
+    // A file that ends inside a module has its place after the last field.
+    Some(match rest {
+        Some(other) => Err(other),
+        None => Ok(book),
+    })
+}
+
+impl Book {
+    fn reads(&self, misreading: Misreading) -> bool {
+        self.misreading == Some(misreading)
+    }
+
+    /// The causes of an INSTANCE that hang on levels, and 16, in the order in which they are judged.
+    fn order(&self, constant: bool) -> [u32; 5] {
+        match self.misreading {
+            Some(Misreading::AnyModule) if !constant => [12, 21, 14, 15, 16],
+            Some(Misreading::BeforeFourteen) => [12, 21, 14, 15, 16],
+            Some(Misreading::AfterFifteen) => [12, 14, 15, 21, 16],
+            Some(Misreading::AfterSixteen) => [12, 14, 16, 21, 15],
+            _ => [12, 14, 21, 15, 16],
+        }
+    }
+
+    /// Takes a field in and gives its cause, if it has one; `named` says that an INSTANCE has cause 16.
+    fn field(&mut self, field: &Field, named: bool) -> Option<u32> {
+        let scope = Rc::new(self.model.scope().cloned().unwrap_or_default());
+        let first = self.texts.len();
+        match field {
+            Field::Definition(_, _, body) => self.texts.push(Text {
+                body: Rc::new(body.clone()),
+                scope: scope.clone(),
+                chain: Vec::new(),
+            }),
+            Field::Instance {
+                parameters,
+                module,
+                with,
+                ..
+            } => self.bring(&scope, *parameters, *module, with),
+            _ => (),
+        }
+        self.model.add(field);
+        (first..self.texts.len()).for_each(|number| self.fill(number));
+        let wrong = (first..self.texts.len()).any(|number| self.model.card(number)[0] == 4);
+        match field {
+            Field::Definition(..) => wrong.then_some(12),
+            Field::Assume(formula) | Field::Theorem(formula) => {
+                match self.at_zero(formula, &scope) {
+                    4 => Some(12),
+                    1.. if matches!(field, Field::Assume(_)) => Some(13),
+                    _ => None,
+                }
+            }
+            Field::Instance { module, .. } => {
+                let module = self.model.module(*module).expect("ended earlier");
+                let mut holds = self.substitutes(module);
+                holds.extend(wrong.then_some(15));
+                holds.extend(named.then_some(16));
+                let mut order = self.order(module.constant).into_iter();
+                order.find(|cause| holds.contains(cause))
+            }
+            _ => None,
+        }
+    }
+
+    /// Takes in an INSTANCE and the texts that it brings.
+    fn bring(&mut self, scope: &Rc<Scope>, parameters: u8, module: u16, with: &[(u16, Expr)]) {
+        let module = self.model.module(module).expect("ended earlier");
+        let order = module.scope.order.clone();
+        for &number in &order {
+            let mut text = self.texts[number].clone();
+            text.chain.push(self.instances.len());
+            self.texts.push(text);
+        }
+        self.instances.push(Instance {
+            scope: scope.clone(),
+            parameters: parameters.into(),
+            with: with.to_vec(),
+            start: self.texts.len() - order.len(),
+            order,
+        });
+    }
+
+    /// Those of the causes 12, 14 and 21 that the substitutes of the last INSTANCE have.
+    fn substitutes(&self, module: &Module) -> Vec<u32> {
+        let last = self.instances.last().expect("an INSTANCE");
+        let zeros = [0; SLOTS];
+        let mut twos = zeros;
+        twos[..last.parameters].fill(2);
+        let (mut holds, mut counted) = (Vec::new(), Vec::new());
+        for declared in &module.scope.declared {
+            let written = last.with.iter().find(|(name, _)| *name == declared.name);
+            let level = |levels: &[u8]| match written {
+                Some((_, expr)) => self.level(expr, &last.scope, &[], levels, &mut Vec::new()),
+                None => {
+                    let same = last.scope.operator(declared.name).expect("known");
+                    self.apply(same, &[], &[], &levels[SLOTS - same.count as usize..])
+                }
+            };
+            let at_zero = level(&zeros);
+            let most = match declared.meaning {
+                _ if declared.count > 0 => 0,
+                _ if module.constant => 3,
+                Meaning::Variable(_) => 1,
+                _ => 0,
+            };
+            holds.extend((at_zero == 4).then_some(12));
+            holds.extend((at_zero > most).then_some(14));
+            let seen = match self.misreading {
+                Some(Misreading::WrittenOnly) => written.is_some(),
+                Some(Misreading::UsedOnly) => self.uses(module, declared),
+                _ => true,
+            };
+            counted.extend(seen.then(|| match self.misreading {
+                Some(Misreading::ParametersAtTwo) => level(&twos),
+                _ => at_zero,
+            }));
+        }
+        let mixed = match self.misreading {
+            Some(Misreading::NoTwentyOne) => false,
+            Some(Misreading::NeighboursOnly) => counted.windows(2).any(rows::mixed),
+            _ => rows::mixed(&counted),
+        };
+        let any = module.constant || self.reads(Misreading::AnyModule);
+        holds.extend((mixed && any).then_some(21));
+        holds
+    }
+
+    /// Whether a definition of the module uses a name that it declares.
+    fn uses(&self, module: &Module, declared: &Operator) -> bool {
+        fn holds(expr: &Expr, name: u16) -> bool {
+            matches!(expr, Expr::Name(own, _) if *own == name)
+                || expr.arguments().iter().any(|part| holds(part, name))
+        }
+        let mut order = module.scope.order.iter();
+        order.any(|&number| holds(&self.texts[number].body, declared.name))
+    }
+
+    /// Works out the card of a definition.
+    fn fill(&mut self, number: usize) {
+        let count = self.model.definitions[number].parameters as usize;
+        for place in 0..5usize.pow(count as u32) {
+            let all = [place % 5, place / 5 % 5, place / 25].map(|level| level as u8);
+            let levels = &all[..count];
+            let level = match self.misreading {
+                Some(Misreading::OneCeiling) => {
+                    let alone = (0..count).map(|at| {
+                        let mut alone = vec![0; count];
+                        alone[at] = levels[at];
+                        self.definition(number, &alone)
+                    });
+                    alone.max().unwrap_or_else(|| self.definition(number, &[]))
+                }
+                _ => self.definition(number, levels),
+            };
+            self.model.cards[125 * number + place] = level;
+        }
+    }
+
+    fn definition(&self, number: usize, levels: &[u8]) -> u8 {
+        let Text { body, scope, chain } = &self.texts[number];
+        self.level(body, scope, chain, levels, &mut Vec::new())
+    }
+
+    fn at_zero(&self, expr: &Expr, scope: &Scope) -> u8 {
+        self.level(expr, scope, &[], &[0; SLOTS], &mut Vec::new())
+    }
+
+    /// The level of a query's expression at the end of a module, whose names and counts are right.
+    pub fn query(&mut self, module: u16, expr: &Expr, levels: &[u8]) -> u8 {
+        if self.reads(Misreading::NotInQueries) {
+            self.misreading = Some(Misreading::NoMixing);
+        }
+        let scope = &self.model.module(module).expect("a module").scope;
+        self.level(expr, scope, &[], levels, &mut Vec::new())
+    }
+
+    /// Parameters of the instances that brought a text.
+    fn parameters(&self, chain: &[usize]) -> usize {
+        chain.iter().map(|&by| self.instances[by].parameters).sum()
+    }
+
+    /// The level of a text that a chain of instances brought, over the levels of their parameters, the
+    /// outermost first, and then its own.
+    fn level(
+        &self,
+        expr: &Expr,
+        scope: &Scope,
+        chain: &[usize],
+        levels: &[u8],
+        binders: &mut Vec<u8>,
+    ) -> u8 {
+        let operator = match expr {
+            Expr::Parameter(index) => return levels[self.parameters(chain) + *index as usize],
+            Expr::Bound(index) => return binders[binders.len() - 1 - *index as usize],
+            Expr::Literal(_) => return 0,
+            Expr::BuiltIn(code, arguments) => {
+                let row = rows::row(*code).expect("a code");
+                let mut given = Vec::new();
+                for (at, argument) in arguments.iter().enumerate() {
+                    let binds = row.binds_in(at);
+                    binders.extend(binds);
+                    given.push(self.level(argument, scope, chain, levels, binders));
+                    if binds.is_some() {
+                        binders.pop();
+                    }
+                }
+                let mut taken = given.iter().zip(row.takes);
+                return match row.gives {
+                    _ if !taken.all(|(level, takes)| takes >> level & 1 == 1) => 4,
+                    Some(level) => level,
+                    None => self.highest(Meeting::BuiltIn(*code), &given),
+                };
+            }
+            Expr::Name(name, _) => scope.operator(*name),
+            Expr::Brought(instance, name, _) => scope.brought(*instance, *name),
+        };
+        let given: Vec<u8> = expr
+            .arguments()
+            .iter()
+            .map(|argument| self.level(argument, scope, chain, levels, binders))
+            .collect();
+        self.apply(operator.expect("known"), chain, levels, &given)
+    }
+
+    /// The level of an operator over arguments of these levels, where a chain of instances brought it.
+    fn apply(&self, operator: &Operator, chain: &[usize], levels: &[u8], given: &[u8]) -> u8 {
+        let all = [&levels[..self.parameters(chain)], given].concat();
+        match (operator.meaning, chain.split_first()) {
+            (Meaning::Defined(number), _) => {
+                let brought = |number: usize, &by: &usize| {
+                    let Instance { order, start, .. } = &self.instances[by];
+                    let place = order.iter().position(|&each| each == number);
+                    start + place.expect("brought with the rest")
+                };
+                let number = chain.iter().fold(number, brought);
+                self.model.card(number)[entry(&all)]
+            }
+            (Meaning::Variable(_), None) => 1,
+            (Meaning::Constant(_), None) => self.highest(Meeting::Declared, given),
+            (_, Some((&by, outer))) => {
+                let Instance { scope, with, .. } = &self.instances[by];
+                match with.iter().find(|(name, _)| *name == operator.name) {
+                    Some((_, expr)) => self.level(expr, scope, outer, &all, &mut Vec::new()),
+                    None => {
+                        let same = scope.operator(operator.name).expect("known");
+                        self.apply(same, outer, levels, given)
+                    }
+                }
+            }
+        }
+    }
+
+    fn highest(&self, meeting: Meeting, levels: &[u8]) -> u8 {
+        let mixed = match (self.misreading, meeting) {
+            (Some(Misreading::NoMixing), _) => false,
+            (Some(Misreading::NeighboursMix), _) => levels.windows(2).any(rows::mixed),
+            (Some(Misreading::NotInThree), Meeting::BuiltIn(96..=103)) => false,
+            (Some(Misreading::NotInDeclared), Meeting::Declared) => false,
+            (Some(Misreading::NotInBinders), Meeting::BuiltIn(132..=139)) => false,
+            _ => rows::mixed(levels),
+        };
+        match mixed {
+            true => 4,
+            false => levels.iter().copied().max().unwrap_or(0),
+        }
+    }
+}
