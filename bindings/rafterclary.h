@@ -4,15 +4,17 @@
  * is 0. Lent memory must not overlap what is only read, nor other lent memory, and while a call
  * lasts no other thread may touch it, nor write what is read. It is written only as paper 01 says:
  * the card memory, and of that the first 32,000 bytes at most, and the output of an expansion, and
- * of that its length. The tables of a call are on the native stack: 435 KB, of a level query 699
- * KB, of an expansion 970 KB, and some tens of KB more for the calls themselves. Of the C library
+ * of that its length. The tables of a call are on the native stack: 427 KB, of a level query 690
+ * KB, of an expansion 962 KB, and some tens of KB more for the calls themselves. Of the C library
  * the archive calls memcpy, memmove and memset, and nothing else.
  *
  * Every call checks the file afresh and fills the card memory, as a check does: an accepted
  * file's cards are there after a query too, whether it is answered or refused.
  *
  * A reply is a value, or 2^31 + 65,536 * number + place for a refusal; that of a body has 64 bits
- * and macros of its own. */
+ * and macros of its own. The numbers are those of paper 01's causes, 1 to 18, and 21 of paper 02:
+ * an instance of a constant module whose substitutes hold both a 2 and a 3. docs/HANDBOOK.md has
+ * them in the order in which they are judged. */
 #ifndef RAFTERCLARY_H
 #define RAFTERCLARY_H
 
@@ -40,7 +42,8 @@ uint32_t rafterclary_check(const uint8_t *file, size_t file_length, uint8_t *car
                            size_t cards_length);
 
 /* The level of an expression at the end of a module, 0 to 4 (4: not level-correct), with the
- * parameters at the levels given, one byte each. An expression may have any length. The place of
+ * parameters at the levels given, one byte each. A transition (2) beside a temporal formula (3) is
+ * not level-correct. An expression may have any length. The place of
  * a refusal of the expression or the levels is the number of the file's fields. */
 uint32_t rafterclary_level(const uint8_t *file, size_t file_length, uint8_t *cards,
                            size_t cards_length, uint16_t module, const uint8_t *expression,

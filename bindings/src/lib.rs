@@ -70,7 +70,8 @@ pub const CARD: usize = 125;
 /// The bytes of the longest expansion: an output of this length is never too short.
 pub const EXPANSION: usize = 65_535;
 
-/// A call is refused: by what cause, numbered as in paper 01, and at which field, counted from 0.
+/// A call is refused: by what cause, numbered as in paper 01 (1 to 18) and paper 02 (21), and at
+/// which field, counted from 0.
 /// For a query's expression and its parameters the place is the number of fields.
 #[derive(Clone, Copy, Debug, PartialEq, Eq)]
 pub struct Refusal {
@@ -243,6 +244,12 @@ mod tests {
     const FIELDS: u32 = 4;
     /// The variable.
     const X: [u8; 4] = [2, 0, 2, 0];
+    /// A module with two constants, and an instance that puts op0' for one and []op0 for the
+    /// other.
+    const MIXED: [u8; 50] = [
+        1, 0, 2, 0, 1, 3, 0, 3, 0, 1, 0, 3, 0, 3, 0, 2, 0, 7, 0, 0, 1, 0, 2, 0, 2, 6, 0, 22, 0, 0,
+        0, 0, 1, 2, 0, 1, 0, 4, 4, 112, 4, 0, 0, 2, 0, 4, 4, 118, 4, 0,
+    ];
 
     fn memory() -> Vec<u8> {
         vec![7; CARD_MEMORY + 1]
@@ -274,6 +281,9 @@ mod tests {
         assert_eq!(check(&EXAMPLE[..20], &mut cards), refused(4, 3));
         assert!(cleared(&cards));
         assert_eq!(check(&[], &mut cards), refused(2, 0));
+        let mut cards = memory();
+        assert_eq!(check(&MIXED, &mut cards), refused(21, 5));
+        assert!(cleared(&cards));
         let mut short = [7; CARD_MEMORY - 1];
         assert_eq!(check(&EXAMPLE, &mut short), refused(1, 0));
         assert!(short.iter().all(|&byte| byte == 7));
@@ -294,6 +304,16 @@ mod tests {
         assert_eq!(ask(1, &twice, &[]), Ok(4));
         for (given, expected) in [(0, 2), (1, 2), (2, 4), (4, 4)] {
             assert_eq!(ask(1, &[2, 0, 3, 1, 0, 0], &[given]), Ok(expected));
+        }
+        // Conjunction: a transition and a temporal formula do not mix.
+        for (given, expected) in [
+            ([2, 2], 2),
+            ([3, 3], 3),
+            ([1, 3], 3),
+            ([2, 3], 4),
+            ([3, 2], 4),
+        ] {
+            assert_eq!(ask(1, &[4, 49, 0, 0, 0, 1], &given), Ok(expected));
         }
         assert_eq!(ask(2, &X, &[]), refused(17, 0));
         assert_eq!(ask(1, &[], &[]), refused(3, FIELDS));

@@ -1,6 +1,6 @@
 /* Calls every function of the archive through the header, on paper 01's example: one definition,
- * p', of its own parameter. Exits with the number of the first line that does not hold, 0 if all
- * do. */
+ * p', of its own parameter; and a check on a file that is refused with 21. Exits with the number
+ * of the first line that does not hold, 0 if all do. */
 #include "rafterclary.h"
 
 #include <string.h>
@@ -8,6 +8,10 @@
 static const uint8_t example[] = {0x01, 0x00, 0x02, 0x00, 0x01, 0x04, 0x00, 0x02,
                                   0x00, 0x02, 0x05, 0x00, 0x07, 0x00, 0x03, 0x01,
                                   0x04, 0x70, 0x00, 0x00, 0x07, 0x00, 0x00};
+/* A module with two constants, and an instance that puts op0' for one and []op0 for the other. */
+static const uint8_t mixed[] = {1, 0, 2, 0, 1, 3, 0, 3, 0, 1, 0, 3, 0, 3, 0, 2, 0, 7, 0,
+                                0, 1, 0, 2, 0, 2, 6, 0, 22, 0, 0, 0, 0, 1, 2, 0, 1, 0, 4,
+                                4, 112, 4, 0, 0, 2, 0, 4, 4, 118, 4, 0};
 static uint8_t cards[RAFTERCLARY_CARD_MEMORY];
 static uint8_t out[RAFTERCLARY_EXPANSION];
 
@@ -30,6 +34,7 @@ static int checks(void) {
     EXPECT(
         !RAFTERCLARY_IS_REFUSAL(rafterclary_check(example, sizeof example, cards, sizeof cards)));
     EXPECT(is_refusal(rafterclary_check(example, 20, cards, sizeof cards), 4, 3));
+    EXPECT(is_refusal(rafterclary_check(mixed, sizeof mixed, cards, sizeof cards), 21, 5));
     EXPECT(is_refusal(rafterclary_check(example, sizeof example, cards, sizeof cards - 1), 1, 0));
     return 0;
 }

@@ -28,7 +28,7 @@ that cannot be read). With many files the worst counts.";
 const LEVEL_EXAMPLES: &str = "\
 Examples:
   rafterclary level samples/depth-lawful.tla Panel 'Head!Sink'
-  rafterclary level samples/trial-levels.tla Trial \"G(p, q)\" p=transition q=temporal
+  rafterclary level samples/trial-levels.tla Trial \"G(p, q)\" p=state q=temporal
   rafterclary level samples/example.bin 1 \"n3(p0)\" 2
   rafterclary level samples/example.bin 1 --hex \"02 0003 01 02 0002 00\"
 
@@ -204,7 +204,7 @@ pub enum Command {
     /// Tell what a refusal means, with the smallest file that shows it
     Explain {
         /// The number of the refusal
-        #[arg(value_parser = clap::value_parser!(u32).range(1..=18))]
+        #[arg(value_parser = clap::value_parser!(u32).range(1..=21))]
         number: u32,
     },
     /// Convert text to a tagged file, and a tagged file to text

@@ -11,6 +11,7 @@ pub enum Example {
 }
 
 pub struct Cause {
+    pub number: u32,
     /// The cause as the table of refusals has it.
     pub title: &'static str,
     pub meaning: &'static str,
@@ -19,7 +20,7 @@ pub struct Cause {
 
 /// The cause with a number.
 pub fn cause(number: u32) -> Option<&'static Cause> {
-    CAUSES.get((number as usize).checked_sub(1)?)
+    CAUSES.iter().find(|cause| cause.number == number)
 }
 
 /// Levels 0 to 4.
@@ -62,20 +63,24 @@ pub fn takes(code: u8) -> Option<&'static str> {
     })
 }
 
-const CAUSES: [Cause; 18] = [
+/// In the order in which they are judged.
+const CAUSES: [Cause; 19] = [
     Cause {
+        number: 1,
         title: "card memory under 32,000 bytes",
         meaning: "The caller lends the checker too little memory for the cards. Nothing is read and \
-            nothing is written. This program always lends enough; a program that calls the \
+            nothing is written. The programs here always lend enough; a program that calls the \
             archive itself may not.",
         example: Example::None,
     },
     Cause {
+        number: 2,
         title: "file empty or over its limit",
         meaning: "A file has 1 to 32,768 bytes.",
         example: Example::Bytes(&[]),
     },
     Cause {
+        number: 3,
         title: "layout: cut short, left over, an unknown tag, token or code, name 0, or an unnamed instance with parameters",
         meaning: "The bytes are not fields. A field is a tag from 1 to 9, a two-byte length and that \
             many bytes, which must be exactly what the tag asks for; an expression has every \
@@ -84,6 +89,7 @@ const CAUSES: [Cause; 18] = [
         example: Example::Bytes(&[0]),
     },
     Cause {
+        number: 4,
         title: "field outside its order, or the file ends inside a module",
         meaning: "A module begins with its module field and ends with its end field; all else stands \
             between them, and EXTENDS only right after the module field. Modules are not nested, \
@@ -91,6 +97,7 @@ const CAUSES: [Cause; 18] = [
         example: Example::Text("====\n"),
     },
     Cause {
+        number: 5,
         title: "a limit passed",
         meaning: "16 modules, 64 declarations and 256 definitions in a file (those that instances \
             bring counted), 3 parameters or arguments (an instance's and an operator's own added \
@@ -98,17 +105,20 @@ const CAUSES: [Cause; 18] = [
         example: Example::Text("---- MODULE M ----\nCONSTANT K(_, _, _, _)\n"),
     },
     Cause {
+        number: 6,
         title: "module name used before",
         meaning: "Two modules of a file have one name.",
         example: Example::Text("---- MODULE M ----\n====\n---- MODULE M ----\n"),
     },
     Cause {
+        number: 7,
         title: "module named is not ended earlier",
         meaning: "EXTENDS or INSTANCE names a module that the file does not have, or that has not \
             ended where it is named: a module uses what stands before it.",
         example: Example::Text("---- MODULE M ----\nEXTENDS M\n"),
     },
     Cause {
+        number: 8,
         title: "name already in the context, own or brought",
         meaning: "A field adds a name that means something in the module already: declared, defined, \
             an instance's name, extended, or brought by an instance without a name. Two extended \
@@ -116,6 +126,7 @@ const CAUSES: [Cause; 18] = [
         example: Example::Text("---- MODULE M ----\nVARIABLE x\nVARIABLE x\n"),
     },
     Cause {
+        number: 9,
         title: "name, parameter or bound index unknown",
         meaning: "An expression uses a name that the module does not know at that place, an operator \
             that an instance does not bring, a parameter or bound variable that nothing \
@@ -124,6 +135,7 @@ const CAUSES: [Cause; 18] = [
         example: Example::Text("---- MODULE M ----\nASSUME ?p0\n"),
     },
     Cause {
+        number: 10,
         title: "argument count wrong",
         meaning: "An operator is given another number of arguments than it takes; or a declared name \
             without a substitution stands for a name of the context with another number of \
@@ -131,6 +143,7 @@ const CAUSES: [Cause; 18] = [
         example: Example::Text("---- MODULE M ----\nCONSTANT K(_)\nASSUME K\n"),
     },
     Cause {
+        number: 11,
         title: "substituted name not declared there, or twice",
         meaning: "INSTANCE .. WITH replaces declared names of the instanced module (extended ones \
             included), each at most once; definitions cannot be replaced.",
@@ -139,18 +152,23 @@ const CAUSES: [Cause; 18] = [
         ),
     },
     Cause {
+        number: 12,
         title: "not level-correct: level 4 in a body, substitute or formula",
         meaning: "With its parameters at level 0 the expression puts something where its level is not \
             taken: x'' primes a transition, []x' is temporal over a transition that is not of the form \
-            [A]_v. In TLA+ such an expression has no meaning.",
+            [A]_v. Or it mixes an action (level 2) with a temporal formula (level 3): x' = 1 /\\ []P \
+            speaks of a step and of a whole behaviour at once (if every step is meant, write \
+            [][x' = 1]_x /\\ []P). In TLA+ such an expression has no meaning.",
         example: Example::Text("---- MODULE M ----\nTHEOREM op0''\n"),
     },
     Cause {
+        number: 13,
         title: "ASSUME not level 0",
         meaning: "What is assumed speaks of constants only: no variable, no prime, nothing temporal.",
         example: Example::Text("---- MODULE M ----\nASSUME op0'\n"),
     },
     Cause {
+        number: 14,
         title: "substitute's level not lawful",
         meaning: "An instance puts something in a declared name's place whose level is too high. In a \
             module with variables (or with a definition above level 0) a constant takes level 0 \
@@ -162,15 +180,29 @@ const CAUSES: [Cause; 18] = [
         ),
     },
     Cause {
-        title: "a brought definition is level 4",
-        meaning: "Every substitute is lawful by itself, but with all of them in place a definition of \
-            the instanced module is no longer level-correct. This comes of an operator with \
-            arguments whose substitute drops some of them.",
+        number: 21,
+        title: "an instance of a constant module whose substitutes hold both a transition-level (2) and a temporal-level (3) expression",
+        meaning: "In a constant module (no variable, no definition above level 0) constants without \
+            arguments may be replaced by actions (level 2) or by temporal formulas (level 3), but \
+            not by both in one instance: a definition may put any two of them side by side, and \
+            action and temporal do not mix. Names that stand for themselves count, and so do names \
+            that no definition uses. Put [][A]_v, which is temporal, for an action A; or split the \
+            module, so that no instance takes both; and where a name stands for itself by accident, \
+            write a substitution for it.",
         example: Example::Text(
-            "---- MODULE M ----\nCONSTANT K(_, _)\nD == []K(op0', []op0)\n====\n---- MODULE N ----\nINSTANCE M WITH K(a, b) <- a\n",
+            "---- MODULE M ----\nCONSTANTS a, b\n====\n---- MODULE N ----\nINSTANCE M WITH a <- op0', b <- []op0\n",
         ),
     },
     Cause {
+        number: 15,
+        title: "a brought definition is level 4",
+        meaning: "Every substitute is lawful, but with all of them in place a definition of the \
+            instanced module is not level-correct. Since action and temporal do not mix, and 21 is \
+            judged before it, no file is known that shows it.",
+        example: Example::None,
+    },
+    Cause {
+        number: 16,
         title: "the module instanced has a named instance",
         meaning: "A module that has a named instance, its own or extended, cannot be instanced. \
             Instance it without a name inside, or bring its definitions another way.",
@@ -179,15 +211,47 @@ const CAUSES: [Cause; 18] = [
         ),
     },
     Cause {
+        number: 17,
         title: "no such module or definition",
         meaning: "A query names a module or a definition that the file does not have. No check of a \
             file is refused so.",
         example: Example::None,
     },
     Cause {
+        number: 18,
         title: "expansion longer than the output or 65,535 bytes",
         meaning: "The expansion that a query asks for does not fit the memory lent for it, or is over \
             65,535 bytes. No check of a file is refused so.",
         example: Example::None,
     },
 ];
+
+#[cfg(test)]
+mod tests {
+    use super::*;
+
+    /// 1 to 18 and 21, and 21 is judged after 14 and before 15.
+    #[test]
+    fn numbers() {
+        let judged: Vec<u32> = CAUSES.iter().map(|cause| cause.number).collect();
+        let expected: Vec<u32> = (1..=14).chain([21]).chain(15..=18).collect();
+        assert_eq!(judged, expected);
+        for number in judged {
+            assert_eq!(cause(number).map(|cause| cause.number), Some(number));
+        }
+        for number in [0, 19, 20, 22] {
+            assert!(cause(number).is_none(), "{number}");
+        }
+    }
+
+    /// Both that speak of mixing say what to write instead.
+    #[test]
+    fn action_and_temporal_do_not_mix() {
+        for number in [12, 21] {
+            let meaning = cause(number).expect("a cause").meaning;
+            for word in ["(level 2)", "(level 3)", "[]["] {
+                assert!(meaning.contains(word), "{number}: {word}");
+            }
+        }
+    }
+}

@@ -12,6 +12,7 @@ mod causes;
 mod commands;
 mod diagnostics;
 mod finding;
+mod innermost;
 mod input;
 mod json;
 mod outline;

@@ -39,12 +39,13 @@ fn cards() {
 /// Each smallest file is refused by its number, as the archive says.
 #[test]
 fn explanations() {
-    for number in 1..=18 {
+    for number in (1..=18).chain([21]) {
         let words = ["explain", "--json", &number.to_string()];
         let told = &run(&words).json()[0];
         assert_eq!(told["number"], number);
         let Some(hexadecimal) = told["hexadecimal"].as_str() else {
-            assert!(matches!(number, 1 | 17 | 18), "{number}");
+            // Nothing shows 15 since action and temporal do not mix.
+            assert!(matches!(number, 1 | 15 | 17 | 18), "{number}");
             assert_eq!(told["place"], Value::Null);
             continue;
         };
@@ -79,8 +80,10 @@ fn misuse() {
         &["check", "samples/no-such-file"][..],
         &["check", "samples"],
         &["check", "--no-such-flag"],
-        &["explain", "19"],
         &["explain", "0"],
+        &["explain", "19"],
+        &["explain", "20"],
+        &["explain", "22"],
         &["card", "samples/example.bin", "1"],
         &["card", "samples/example.bin", "nothing"],
         &["card", "samples/relation.tla", "First!Nothing"],

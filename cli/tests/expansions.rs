@@ -172,7 +172,7 @@ fn refused_in_words() {
     }
     let refused = run(&["expand", "samples/trial-n.tla", "N", "D"]);
     assert_eq!(refused.status, 1);
-    assert!(refused.text().contains("refused 15 at field 7"));
+    assert!(refused.text().contains("refused 12 at field 3"));
     let many = vec!["p"; 300];
     let many: Vec<String> = many
         .iter()

@@ -1,4 +1,4 @@
-//! The handbook shows what its commands print.
+//! The handbook shows what its commands print, and has the causes as `explain` has them.
 
 mod common;
 
@@ -37,4 +37,33 @@ fn commands_print_what_it_shows() {
         }
     }
     assert!(ran >= 13 && compared >= 11, "{ran} {compared}");
+}
+
+fn one_line(text: &str) -> String {
+    text.split_whitespace().collect::<Vec<_>>().join(" ")
+}
+
+/// Each section says what `explain` says, and they stand in the order in which causes are judged.
+#[test]
+fn causes() {
+    let text = fs::read_to_string(root().join("docs/HANDBOOK.md")).expect("the handbook");
+    let (_, refusals) = text.split_once("\n## Refusals\n").expect("the section");
+    let refusals = refusals.split("\n## ").next().expect("its text");
+    let sections: Vec<&str> = refusals.split("\n### ").skip(1).collect();
+    let numbers: Vec<u32> = (1..=14).chain([21]).chain(15..=18).collect();
+    assert_eq!(sections.len(), numbers.len());
+    for (section, number) in sections.iter().zip(numbers) {
+        let told = &run(&["explain", "--json", &number.to_string()]).json()[0];
+        let word = |key: &str| told[key].as_str().unwrap_or_default();
+        let head = format!("{number}: {}\n\n{}\n", word("cause"), word("meaning"));
+        assert!(section.starts_with(&head), "{section}\n{head}");
+        let shown = one_line(section);
+        for key in ["hexadecimal", "text"] {
+            assert!(shown.contains(&one_line(word(key))), "{number}: {key}");
+        }
+        if let Some(place) = told["place"].as_u64() {
+            let reply = format!("`refused {number} {place}`");
+            assert!(section.contains(&reply), "{reply}");
+        }
+    }
 }

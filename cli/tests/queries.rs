@@ -32,9 +32,11 @@ fn trial_lines() {
         ("ENABLED x'", &[], "1 state\n"),
         ("[](x')", &[], "4 not level-correct\n"),
         ("F((x')')", &[], "0 constant\n"),
-        ("G(p, q)", &["p=2", "q=3"], "3 temporal\n"),
+        ("G(p, q)", &["p=2", "q=3"], "4 not level-correct\n"),
         ("G(p, q)", &["p=2", "q=0"], "4 not level-correct\n"),
-        ("G(p0, p1)", &["transition", "temporal"], "3 temporal\n"),
+        ("G(p0, p1)", &["state", "temporal"], "3 temporal\n"),
+        ("x' = 1 /\\ []y", &[], "4 not level-correct\n"),
+        ("[][x' = 1]_x /\\ []y", &[], "3 temporal\n"),
         ("\\EE z : z", &[], "3 temporal\n"),
         ("\\EE z : z'", &[], "4 not level-correct\n"),
     ] {
@@ -43,11 +45,9 @@ fn trial_lines() {
         assert_eq!(told.text(), reply, "{expression}");
         assert_eq!((told.status, told.err.as_str()), (0, ""), "{expression}");
     }
-    let alone = ["level", "samples/trial-n-alone.tla", "N", "D"];
-    assert_eq!(run(&alone).text(), "3 temporal\n");
     let refused = run(&["level", "samples/trial-n.tla", "N", "D"]);
     assert_eq!(refused.status, 1);
-    assert!(refused.text().contains("refused 15 at field 7"));
+    assert!(refused.text().contains("refused 12 at field 3"));
 }
 
 #[test]

@@ -127,7 +127,7 @@ fn the_shape_of_json() {
 }
 
 /// A text, the number and place of its refusal, and pieces of what is said.
-const TEXTS: [(&str, u32, u32, &[&str]); 24] = [
+const TEXTS: [(&str, u32, u32, &[&str]); 33] = [
     ("---- MODULE M ----\nVARIABLE x\n", 4, 2, &["ends inside module M"]),
     (
         "---- MODULE M ----\n---- MODULE N ----\n",
@@ -256,10 +256,88 @@ const TEXTS: [(&str, u32, u32, &[&str]); 24] = [
         &["the variable d stands for the constant d of module M"],
     ),
     (
-        "---- MODULE M ----\nCONSTANT K(_, _)\nA == 1\nB == []K(op0', []op0)\nC == 2\n====\n---- MODULE N ----\nINSTANCE M WITH K(a, b) <- a\n",
-        15,
+        "---- MODULE M ----\nCONSTANT P\nVARIABLE x\nSpec == x = 0 /\\ x' = 1 /\\ []P\n",
+        12,
+        3,
+        &[
+            "action and temporal do not mix: x' = 1 has level 2, []P has level 3",
+            "x' = 1 has level 2 (transition)",
+            "[]P has level 3 (temporal)",
+            "[][x' = 1]_v is temporal",
+        ],
+    ),
+    (
+        "---- MODULE M ----\nVARIABLE x\nNext == x' = 1\nLive == <>x\nSpec == Live \\/ (x > 0 /\\ Next)\n",
+        12,
+        4,
+        &["action and temporal do not mix: Next has level 2, Live has level 3"],
+    ),
+    (
+        "---- MODULE N ----\nCONSTANT K(_, _)\nVARIABLE u\nD == []K(u', []u)\n",
+        12,
+        3,
+        &["action and temporal do not mix in K: u' has level 2, []u has level 3"],
+    ),
+    (
+        "---- MODULE M ----\nVARIABLE x\nBoth(p, q, r) == q + r\nD(a) == Both(x'', <>x, x') + a\n",
+        12,
+        3,
+        &[
+            "action and temporal do not mix in Both: x' has level 2, <>x has level 3",
+            "parameters are taken at level 0",
+        ],
+    ),
+    (
+        "---- MODULE M ----\nVARIABLE x\nTHEOREM \\E i \\in x' : <>x\n",
+        12,
+        2,
+        &["action and temporal do not mix: x' has level 2, <>x has level 3"],
+    ),
+    (
+        "---- MODULE M ----\nVARIABLE x\nTHEOREM \\E i \\in x : x' = i /\\ []x\n",
+        12,
+        2,
+        &["an expression over a bound variable has level 2, []x has level 3"],
+    ),
+    (
+        "---- MODULE M ----\nCONSTANT c\n====\n---- MODULE N ----\nVARIABLE y\nINSTANCE M WITH c <- y' /\\ []y\n",
+        12,
+        5,
+        &[
+            "the substitute of c has level 4",
+            "action and temporal do not mix: y' has level 2, []y has level 3",
+        ],
+    ),
+    (
+        "---- MODULE M ----\nCONSTANTS a, b, c\n====\n---- MODULE N ----\nVARIABLE y\nI == INSTANCE M WITH a <- []y, b <- y, c <- y' = 1\n",
+        21,
         7,
-        &["B of module M has level 4", "B is in order by itself"],
+        &[
+            "do not mix in an instance of module M: y' = 1 for c has level 2, []y for a has level 3",
+            "y' = 1 has level 2 (transition)",
+            "[]y has level 3 (temporal)",
+            "module M is constant",
+            "split the module",
+        ],
+    ),
+    (
+        "---- MODULE M ----\nCONSTANTS a, b\nD == 1\n====\n---- MODULE N ----\nVARIABLE y\nb == <>y\nI(p) == INSTANCE M WITH a <- y' + p\n",
+        21,
+        8,
+        &[
+            "for a has level 2, b has level 3",
+            "b stands for itself, and has level 3 (temporal)",
+            "if b stands for itself by accident, write a substitution for it",
+        ],
+    ),
+    (
+        "---- MODULE M ----\nCONSTANTS a, b\n====\n---- MODULE N ----\nVARIABLE y\na == y'\nb == <>y\nINSTANCE M\n",
+        21,
+        8,
+        &[
+            "an instance of module M: a has level 2, b has level 3",
+            "a stands for itself, and has level 2 (transition)",
+        ],
     ),
     (
         "---- MODULE L ----\n====\n---- MODULE M ----\nI == INSTANCE L\n====\n---- MODULE N ----\nEXTENDS M\n====\n---- MODULE O ----\nINSTANCE N\n",
@@ -283,6 +361,24 @@ fn in_words() {
         assert_eq!(json["number"], number, "{text}");
         assert_eq!(json["place"], place, "{text}");
         assert_ne!(json["message"], json["cause"], "{text}");
+    }
+}
+
+/// Where a level is not taken by itself, nothing is said of mixing.
+#[test]
+fn not_for_mixing() {
+    for formula in [
+        "[](x') /\\ <>x",
+        "x' ~> []x",
+        "[[]x]_(x')",
+        "WF_x([]x) /\\ x'",
+    ] {
+        let text = format!("---- MODULE M ----\nVARIABLE x\nTHEOREM {formula}\n");
+        let check = run_with(&["check", "--as", "text", "-"], text.as_bytes());
+        let said = format!("{}{}", check.text(), check.err);
+        assert!(said.contains("refused 12 at field 2"), "{said}");
+        assert!(said.contains(" takes "), "{said}");
+        assert!(!said.contains("mix"), "{said}");
     }
 }
 

@@ -6,6 +6,10 @@ pub const BINDERS: u8 = 128;
 pub const SET_BINDERS: u8 = 132;
 /// The first code of a temporal binder.
 pub const TEMPORAL_BINDERS: u8 = 140;
+/// Conjunction.
+pub const AND: u8 = 49;
+/// Disjunction.
+pub const OR: u8 = 50;
 
 pub(crate) const PRIME: u8 = 112;
 pub(crate) const SQUARE: u8 = 115;
@@ -62,8 +66,8 @@ pub(crate) mod rank {
 pub(crate) fn infix(code: u8) -> Option<(&'static str, u8)> {
     Some(match code {
         48 => ("=", rank::RELATION),
-        49 => ("/\\", rank::JUNCTION),
-        50 => ("\\/", rank::JUNCTION),
+        AND => ("/\\", rank::JUNCTION),
+        OR => ("\\/", rank::JUNCTION),
         51 => ("#", rank::RELATION),
         52 => ("+", rank::SUM),
         53 => (">", rank::RELATION),

@@ -80,7 +80,7 @@ fn refusals() {
             "Head == INSTANCE Depth",
         ),
         ("chain-named", "refused 16 14\n", "Port == INSTANCE Winch"),
-        ("trial-n", "refused 15 7\n", "I == INSTANCE N"),
+        ("trial-n", "refused 12 3\n", "D =="),
         ("trial-nesting-33", "refused 5 2\n", "Deep =="),
         ("trial-definitions-257", "refused 5 257\n", "d256 =="),
         ("trial-prime-in-prime", "refused 12 3\n", "Bad =="),

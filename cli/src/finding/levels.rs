@@ -1,19 +1,20 @@
-//! Causes 12 to 15: the levels involved, as the archive gives them.
+//! Causes 12 to 14: the levels involved, as the archive gives them.
 
 use super::{Finding, Focus, Site};
 use crate::causes::{self, level};
+use crate::innermost::{innermost, Innermost, Part};
 use crate::outline::{Declaration, Module};
 use crate::probe;
 use notation::{Expr, Field, File, Token};
 
 /// What stands in a declared name's place.
-struct Substitute {
-    declared: Declaration,
-    expression: Expr,
+pub(super) struct Substitute {
+    pub(super) declared: Declaration,
+    pub(super) expression: Expr,
     /// All parameters that it is over.
-    parameters: u8,
+    pub(super) parameters: u8,
     /// Its place among the substitutions that are written.
-    written: Option<usize>,
+    pub(super) written: Option<usize>,
 }
 
 impl Site<'_> {
@@ -43,56 +44,71 @@ impl Site<'_> {
 
     /// The innermost expression that is not level-correct.
     fn innermost(&self, parameters: u8, body: &Expr) -> Option<Finding> {
-        let inner = probe::innermost(self.before, parameters, body)?;
-        let head = inner.expression.tokens()[0];
-        let levels: Vec<String> = inner
-            .arguments
-            .iter()
-            .flatten()
-            .map(u8::to_string)
-            .collect();
-        let known = levels.len() == inner.arguments.len() && !levels.is_empty();
-        let given = match levels.len() {
-            1 => format!(
-                "its argument has {}",
-                level(inner.arguments[0].unwrap_or(4))
-            ),
-            _ => format!("its arguments have levels {}", levels.join(", ")),
+        let inner = innermost(self.before, parameters, body)?;
+        let finding = match &inner.mixed {
+            Some(mixed) => self.mixed_terms(parameters, &inner.whole, mixed),
+            None => self.level_not_taken(parameters, &inner),
         };
-        let written = self.written(parameters, &inner.expression);
-        let message = match (&written, inner.within_binder) {
-            (Some(written), false) => format!("{written} is not level-correct"),
-            _ => "an expression is not level-correct".to_string(),
+        match parameters {
+            0 => Some(finding),
+            _ => Some(finding.note("parameters are taken at level 0")),
+        }
+    }
+
+    fn level_not_taken(&self, parameters: u8, inner: &Innermost) -> Finding {
+        let arguments = &inner.arguments;
+        let levels: Vec<u8> = arguments.iter().filter_map(|each| each.level).collect();
+        let text = match levels[..] {
+            _ if levels.len() < arguments.len() || levels.is_empty() => level(4),
+            [only] => format!("its argument has {}", level(only)),
+            _ => {
+                let levels: Vec<String> = levels.iter().map(u8::to_string).collect();
+                format!("its arguments have levels {}", levels.join(", "))
+            }
         };
-        let focus = match (&written, inner.within_binder) {
-            (Some(written), false) => Focus::Piece(written.clone()),
-            _ => Focus::Field,
-        };
-        let taken = match head {
+        let taken = match inner.whole.head() {
             Token::BuiltIn(code) => causes::takes(code).map(str::to_string),
-            Token::Name { name, .. } => Some(format!(
-                "the card of {} has level 4 there",
+            head => self
+                .called(head)
+                .map(|called| format!("the card of {called} has level 4 there")),
+        };
+        let (message, focus) = match self.written_part(parameters, &inner.whole) {
+            Some(written) => (
+                format!("{written} is not level-correct"),
+                Focus::Piece(written),
+            ),
+            None => (
+                "an expression is not level-correct".to_string(),
+                Focus::Field,
+            ),
+        };
+        let finding = Finding::new(message).mark(self.place, focus, text);
+        match taken {
+            Some(taken) => finding.note(taken),
+            None => finding,
+        }
+    }
+
+    /// An operator that is not built in, as it is called.
+    pub(super) fn called(&self, head: Token) -> Option<String> {
+        match head {
+            Token::Name { name, .. } => Some(self.operator(name)),
+            Token::Instance { instance, name, .. } => Some(format!(
+                "{}!{}",
+                self.operator(instance),
                 self.operator(name)
             )),
-            Token::Instance { instance, name, .. } => {
-                let (instance, name) = (self.operator(instance), self.operator(name));
-                Some(format!("the card of {instance}!{name} has level 4 there"))
-            }
             _ => None,
-        };
-        let text = if known { given } else { level(4) };
-        let mut finding = Finding::new(message).mark(self.place, focus, text);
-        if let Some(taken) = taken {
-            finding = finding.note(taken);
         }
-        if parameters > 0 {
-            finding = finding.note("parameters are taken at level 0");
-        }
-        Some(finding)
+    }
+
+    /// A part of this field's expression as it would be written there.
+    pub(super) fn written_part(&self, parameters: u8, part: &Part) -> Option<String> {
+        self.written(parameters, part.closed()?)
     }
 
     /// An expression of this field as it would be written there.
-    fn written(&self, parameters: u8, expression: &Expr) -> Option<String> {
+    pub(super) fn written(&self, parameters: u8, expression: &Expr) -> Option<String> {
         let names = &self.input.file.names;
         if matches!(self.field, Field::Instance { .. }) {
             return Some(notation::print_expression(expression, names, parameters));
@@ -127,7 +143,7 @@ impl Site<'_> {
     }
 
     /// The substitutes of an instance of a module, those that stand for themselves included.
-    fn substitutes(&self, instanced: &Module) -> Vec<Substitute> {
+    pub(super) fn substitutes(&self, instanced: &Module) -> Vec<Substitute> {
         let Field::Instance {
             parameters,
             substitutions,
@@ -171,15 +187,19 @@ impl Site<'_> {
 
     /// Marks a substitute.
     fn at(&self, finding: Finding, substitute: &Substitute, text: String) -> Finding {
+        finding.mark(self.place, self.substituted_at(substitute), text)
+    }
+
+    /// Where a substitute stands in the field.
+    pub(super) fn substituted_at(&self, substitute: &Substitute) -> Focus {
         let count = match self.field {
             Field::Instance { substitutions, .. } => substitutions.len(),
             _ => 0,
         };
-        let focus = match substitute.written {
+        match substitute.written {
             Some(place) => Focus::Substitution { place, count },
             None => Focus::Field,
-        };
-        finding.mark(self.place, focus, text)
+        }
     }
 
     pub(super) fn substitute_level(&self) -> Option<Finding> {
@@ -254,43 +274,6 @@ impl Site<'_> {
         finding.note(format!(
             "module {called} {reason}, so its constants may be replaced by constants only"
         ))
-    }
-
-    pub(super) fn brought_level(&self) -> Option<Finding> {
-        let Field::Instance { module, .. } = self.field else {
-            return None;
-        };
-        let instanced = self.outline.ended(*module)?;
-        let called = format!("module {}", self.input.module(*module));
-        let span = (instanced.first, instanced.last?);
-        let note = "the substitutes are lawful each by itself; together they make a definition not level-correct";
-        let found = probe::first_brought(self.before, self.field, span);
-        let Some((at, Field::Definition { name, .. })) = found.map(|at| (at, &self.before[at]))
-        else {
-            let message = format!(
-                "a definition that this instance brings from {called} has {}",
-                level(4)
-            );
-            return Some(Finding::new(message).note(note));
-        };
-        let written = self.operator(*name);
-        let message = format!(
-            "{written} of {called} has {} with these substitutes",
-            level(4)
-        );
-        let finding = Finding::new(message)
-            .mark(
-                self.place,
-                Focus::Field,
-                format!("brings {written} at level 4"),
-            )
-            .other(
-                at,
-                self.word(*name),
-                format!("{written} is in order by itself"),
-            )
-            .note(note);
-        Some(finding.name(written))
     }
 }
 

@@ -6,6 +6,7 @@
 mod asked;
 mod levels;
 mod limits;
+mod mixing;
 mod names;
 
 pub use asked::{find_asked, no_definition, Told};
@@ -75,6 +76,14 @@ impl Finding {
         self
     }
 
+    /// The first place is marked, and those after it beside it.
+    fn point(self, field: usize, focus: Focus, text: impl Into<String>) -> Finding {
+        match self.mark {
+            None => self.mark(field, focus, text),
+            Some(_) => self.other(field, focus, text),
+        }
+    }
+
     fn note(mut self, note: impl Into<String>) -> Finding {
         self.notes.push(note.into());
         self
@@ -140,7 +149,7 @@ impl Site<'_> {
             12 => self.not_level_correct(),
             13 => self.assume_level(),
             14 => self.substitute_level(),
-            15 => self.brought_level(),
+            21 => self.mixed_substitutes(),
             16 => self.named_instance(),
             _ => None,
         }

@@ -1,0 +1,118 @@
+//! An action beside a temporal formula: in an expression (cause 12), among substitutes (cause 21).
+
+use super::levels::Substitute;
+use super::{Finding, Focus, Site};
+use crate::causes::level;
+use crate::innermost::Part;
+use crate::probe;
+use notation::{codes, Expr, Field, Token};
+
+const DO_NOT_MIX: &str = "action and temporal do not mix";
+const WHY: &str = "an action is true or false of a step, a temporal formula of a whole behaviour";
+
+impl Site<'_> {
+    /// An expression with an action and a temporal formula in it.
+    pub(super) fn mixed_terms(&self, parameters: u8, whole: &Part, mixed: &[Part; 2]) -> Finding {
+        let [action, temporal] = mixed;
+        let written = [action, temporal].map(|part| self.written_part(parameters, part));
+        let [first, second] = [&written[0], &written[1]].map(|each| match each {
+            Some(written) => written.as_str(),
+            None => "an expression over a bound variable",
+        });
+        let within = match self.called(whole.head()) {
+            Some(called) => format!(" in {called}"),
+            None => String::new(),
+        };
+        let message = format!("{DO_NOT_MIX}{within}: {first} has level 2, {second} has level 3");
+        let mut finding = Finding::new(message);
+        for (part, written, found) in [(action, &written[0], 2), (temporal, &written[1], 3)] {
+            if let Some(written) = written {
+                let text = format!("{written} has {}", level(found));
+                finding = finding.point(self.place, self.piece(part, written), text);
+            }
+        }
+        finding = finding.note(WHY);
+        let junction = matches!(whole.head(), Token::BuiltIn(codes::AND | codes::OR));
+        match &written[0] {
+            Some(action) if junction => finding.note(format!(
+                "[][{action}]_v is temporal: every step satisfies it or leaves v as it is"
+            )),
+            _ => finding,
+        }
+    }
+
+    /// A part of the field's text; a name is looked for as a word.
+    fn piece(&self, part: &Part, written: &str) -> Focus {
+        match part.closed().map(Expr::tokens) {
+            Some(&[Token::Name { name, .. }]) => self.word(name),
+            _ => Focus::Piece(written.to_string()),
+        }
+    }
+
+    /// The first substitute at level 2 and the first at 3 of an instance of a constant module.
+    pub(super) fn mixed_substitutes(&self) -> Option<Finding> {
+        let Field::Instance { module, .. } = self.field else {
+            return None;
+        };
+        let substitutes = self.substitutes(self.outline.ended(*module)?);
+        let at = |wanted: u8| {
+            substitutes.iter().find(|each| {
+                probe::level(self.before, each.parameters, &each.expression) == Some(wanted)
+            })
+        };
+        let (action, temporal) = (at(2)?, at(3)?);
+        let called = format!("module {}", self.input.module(*module));
+        let written = |each: &Substitute| self.written(each.parameters, &each.expression);
+        let (first, second) = (written(action)?, written(temporal)?);
+        let told = |each: &Substitute, written: &str| match each.written {
+            Some(_) => format!("{written} for {}", self.operator(each.declared.name)),
+            None => written.to_string(),
+        };
+        let mut finding = Finding::new(format!(
+            "{DO_NOT_MIX} in an instance of {called}: {} has level 2, {} has level 3",
+            told(action, &first),
+            told(temporal, &second)
+        ));
+        for (each, written, found) in [(action, &first, 2), (temporal, &second, 3)] {
+            finding = self.told_of(finding, each, written, level(found));
+            finding = finding.name(self.operator(each.declared.name));
+        }
+        let constant = format!(
+            "{called} is constant (no variable, no definition above level 0): its constants may be \
+             replaced by actions or by temporal formulas, but not by both in one instance"
+        );
+        let instead = "put [][A]_v, which is temporal, for an action A, or split the module, so \
+                       that no instance takes both";
+        finding = finding.note(constant).note(WHY).note(instead);
+        for each in [action, temporal] {
+            if each.written.is_none() {
+                let name = self.operator(each.declared.name);
+                finding = finding.note(format!(
+                    "if {name} stands for itself by accident, write a substitution for it"
+                ));
+            }
+        }
+        Some(finding)
+    }
+
+    /// Marks a substitute: where it is written, or where what stands for itself gets its meaning.
+    fn told_of(
+        &self,
+        finding: Finding,
+        each: &Substitute,
+        written: &str,
+        found: String,
+    ) -> Finding {
+        let name = each.declared.name;
+        if each.written.is_some() {
+            let text = format!("{written} has {found}");
+            return finding.point(self.place, self.substituted_at(each), text);
+        }
+        let text = format!("{written} stands for itself, and has {found}");
+        let meaning = self.outline.open().and_then(|open| open.meaning(name));
+        match meaning {
+            Some(meaning) => finding.other(self.outline.field(meaning), self.word(name), text),
+            None => finding.note(text),
+        }
+    }
+}

@@ -1,0 +1,191 @@
+//! Where level 4 comes from: the innermost expression that has it, and what stands in it.
+
+use crate::probe::{level, unused};
+use notation::{codes, Expr, Field, Token};
+
+/// An expression, as it stands in the field and as the archive is asked about it.
+#[derive(Clone)]
+pub struct Part {
+    written: Expr,
+    /// With something of the same level for each variable of a binder around it.
+    asked: Expr,
+    /// As far as the archive tells.
+    pub level: Option<u8>,
+}
+
+impl Part {
+    /// The expression, if it holds no variable of a binder around it.
+    pub fn closed(&self) -> Option<&Expr> {
+        (self.written == self.asked).then_some(&self.written)
+    }
+
+    pub fn head(&self) -> Token {
+        self.written.tokens()[0]
+    }
+}
+
+/// The innermost expression at level 4.
+pub struct Innermost {
+    pub whole: Part,
+    pub arguments: Vec<Part>,
+    /// An action and a temporal formula in it, each of them taken by itself, the two together not.
+    pub mixed: Option<[Part; 2]>,
+}
+
+/// Follows level 4 from an expression to the innermost one that has it.
+pub fn innermost(before: &[Field], parameters: u8, body: &Expr) -> Option<Innermost> {
+    let mut place = Place {
+        before: before.to_vec(),
+        parameters,
+    };
+    let mut here = place.part(body.clone(), body.clone());
+    if here.level? != 4 {
+        return None;
+    }
+    loop {
+        let arguments = place.enter(&here);
+        let head = here.head();
+        // One that the operator drops is at no fault.
+        let next = (0..arguments.len()).find(|&at| {
+            arguments[at].level == Some(4) && place.takes(head, &arguments, &[at]) != Some(true)
+        });
+        let Some(next) = next else {
+            let mixed = place.mixed(head, &arguments);
+            return Some(Innermost {
+                whole: here,
+                arguments,
+                mixed,
+            });
+        };
+        here = arguments[next].clone();
+    }
+}
+
+/// The fields before an expression, and what it is over.
+struct Place {
+    before: Vec<Field>,
+    parameters: u8,
+}
+
+impl Place {
+    fn level(&self, expression: &Expr) -> Option<u8> {
+        level(&self.before, self.parameters, expression)
+    }
+
+    fn part(&self, written: Expr, asked: Expr) -> Part {
+        let level = self.level(&asked);
+        Part {
+            written,
+            asked,
+            level,
+        }
+    }
+
+    /// The arguments of an expression, with something for the variable if it is a binder: a
+    /// literal, or under a temporal binder, whose variable is a state, a variable of the module.
+    fn enter(&mut self, whole: &Part) -> Vec<Part> {
+        let mut asked = arguments(&whole.asked);
+        match whole.head() {
+            Token::BuiltIn(code) if codes::binds(code) => {
+                let variable = (code >= codes::TEMPORAL_BINDERS)
+                    .then(|| unused(&self.before, &whole.asked))
+                    .flatten();
+                let instead = match variable {
+                    Some(name) => Token::Name { name, arguments: 0 },
+                    None => Token::Literal(0),
+                };
+                self.before
+                    .extend(variable.map(|name| Field::Variable { name }));
+                if let Some(body) = asked.last_mut() {
+                    *body = replaced(body, instead);
+                }
+            }
+            _ => {}
+        }
+        let written = arguments(&whole.written).into_iter();
+        let both = written.zip(asked);
+        both.map(|(written, asked)| self.part(written, asked))
+            .collect()
+    }
+
+    /// Whether some arguments are taken, a literal being put for every other.
+    fn takes(&self, head: Token, arguments: &[Part], kept: &[usize]) -> Option<bool> {
+        let literal = Expr::new(Token::Literal(0), &[]).ok()?;
+        let each = arguments.iter().enumerate();
+        let asked = each.map(|(at, argument)| match kept.contains(&at) {
+            true => argument.asked.clone(),
+            false => literal.clone(),
+        });
+        let asked: Vec<Expr> = asked.collect();
+        Some(self.level(&Expr::new(head, &asked).ok()?)? != 4)
+    }
+
+    /// Two arguments at 2 and 3 that are taken each without the other, and not together.
+    fn mixed(&self, head: Token, arguments: &[Part]) -> Option<[Part; 2]> {
+        let at = |level| (0..arguments.len()).filter(move |&at| arguments[at].level == Some(level));
+        let mut pairs = at(2).flat_map(|action| at(3).map(move |temporal| [action, temporal]));
+        let takes = |kept: &[usize]| self.takes(head, arguments, kept);
+        let pair = pairs.find(|pair| {
+            let each = pair.iter().all(|&one| takes(&[one]) == Some(true));
+            each && takes(pair) == Some(false)
+        })?;
+        Some(pair.map(|at| self.of_junction(&arguments[at])))
+    }
+
+    /// Of a conjunction or disjunction the first part that has its level.
+    fn of_junction(&self, whole: &Part) -> Part {
+        let mut here = whole.clone();
+        while matches!(here.head(), Token::BuiltIn(codes::AND | codes::OR)) {
+            let written = arguments(&here.written).into_iter();
+            let mut parts = written
+                .zip(arguments(&here.asked))
+                .map(|(written, asked)| self.part(written, asked));
+            match parts.find(|part| part.level == whole.level) {
+                Some(part) => here = part,
+                None => break,
+            }
+        }
+        here
+    }
+}
+
+/// The arguments of an expression's first token.
+fn arguments(whole: &Expr) -> Vec<Expr> {
+    let tokens = whole.tokens();
+    let mut parts = Vec::new();
+    let mut start = 1;
+    while start < tokens.len() {
+        let mut wanted = 1;
+        let mut end = start;
+        while wanted > 0 && end < tokens.len() {
+            wanted += tokens[end].arguments().unwrap_or(0);
+            wanted -= 1;
+            end += 1;
+        }
+        parts.extend(Expr::from_tokens(tokens[start..end].to_vec()));
+        start = end;
+    }
+    parts
+}
+
+/// The body of a binder with its variable replaced.
+fn replaced(body: &Expr, instead: Token) -> Expr {
+    // For each token that is still to come, the number of binders around it.
+    let mut waiting = vec![0u16];
+    let mut tokens = Vec::with_capacity(body.tokens().len());
+    for &token in body.tokens() {
+        let depth = waiting.pop().unwrap_or(0);
+        let count = token.arguments().unwrap_or(0);
+        let binds = matches!(token, Token::BuiltIn(code) if codes::binds(code));
+        for place in (0..count).rev() {
+            let inside = binds && place + 1 == count;
+            waiting.push(depth.saturating_add(u16::from(inside)));
+        }
+        tokens.push(match token {
+            Token::Bound(index) if index == depth => instead,
+            Token::Bound(index) if index > depth => Token::Bound(index - 1),
+            _ => token,
+        });
+    }
+    Expr::from_tokens(tokens).unwrap_or_else(|_| body.clone())
+}
