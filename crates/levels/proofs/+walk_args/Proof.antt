@@ -66,7 +66,7 @@ walk-args-loop-less-2 : (t : ℕ) → walk-args-lts.Need-loop-less-2 (walk-args-
 walk-args-loop-less-2 t c = search needs
 
 walk-args-loop-again-2 : (t : ℕ) → walk-args-lts.Need-loop-again-2 (walk-args-calls t) (walk-args-at t) walk-args.Post walk-args-Inv-loop walk-args-μ-loop
-walk-args-loop-again-2 t c = search (needs, going-inside)
+walk-args-loop-again-2 t c = going-inside _ _ _ _ _ _ _ _ _ _ _ _ _ _ _ (c .before .before .before .before .before .before .before .before .before .loop .inv) (search needs) _ (c .before .before .before .before .before .before .scope .ensures) _ (c .before .before .before .before .before .first-label .ensures) _ (c .before .before .before .before .next-step .ensures) (c .before .before .before .if2 .taken) (c .before .before .before .before .before .before .before .if1 .left) (c .if4 .taken)
 
 walk-args-sub-walk-args : (t : ℕ) → walk-args-lts.Need-sub-walk-args (walk-args-calls t) (walk-args-at t) walk-args.Post walk-args-Inv-loop walk-args-μ-loop
 walk-args-sub-walk-args t c = search needs
