@@ -13,6 +13,7 @@ use Rattle.context.specs.Parts.{part, placeOf}
 use Rattle.context.specs.Store.{Store, afterDefinitions, codesOf, contextCodes, orderOf, orderSlot, store}
 use Rattle.context.specs.declared.Counts.{Counts}
 use Rattle.entering.specs.Substitutes.{around}
+use Rattle.entering.specs.declared.substitutes.Site.{Site}
 use Rattle.fields.specs.declared.Parts.the-variants.{Instance}
 use Rattle.instance_names.specs.Names.{NamesJudged}
 use Rattle.instancing.specs.Bringing.{instancing}
@@ -212,14 +213,20 @@ between-fits names facts contexts orders heads words c d p q at b e =
 
 -- lawful_field
 module _ (file refs names facts contexts orders heads words declared : List ℕ) (c : Counts) (ph : Phase) (n p q k at cause : ℕ)
-    (levels : LevelsJudged (around file refs itselves words names facts contexts heads) (record { outer = 0; params = p; owner = c .modules; start = at; count = k })
-    (contextCodes contexts heads q) (orderOf orders heads q) cause) where
-  pub lawful-not : (r : Judged) → (cause ≡ 0 → ⊥) → r ≡ refusal cause ph c
+    (site : Site) (levels : LevelsJudged (around file refs itselves words names facts contexts heads) site (contextCodes contexts heads q) (orderOf orders heads q) cause) where
+  judged-here : site ≡ record { outer = 0; params = p; owner = c .modules; start = at; count = k }
+      → LevelsJudged (around file refs itselves words names facts contexts heads) (record { outer = 0; params = p; owner = c .modules; start = at; count = k })
+      (contextCodes contexts heads q) (orderOf orders heads q) cause
+  judged-here here =
+      subst (λ (x : Site). LevelsJudged (around file refs itselves words names facts contexts heads) x (contextCodes contexts heads q) (orderOf orders heads q) cause) here levels
+
+  pub lawful-not : (r : Judged) → (cause ≡ 0 → ⊥) → r ≡ refusal cause ph c → site ≡ record { outer = 0; params = p; owner = c .modules; start = at; count = k }
       → FieldLawful file refs (store names facts contexts orders heads) (store names facts contexts orders heads) c ph n p q k at words words declared r
-  lawful-not r nz e = record { size = refl; cause = cause; levels = levels; unlawful = λ _. e; lawful = λ z. absurd (nz z) }
+  lawful-not r nz e here = record { size = refl; cause = cause; levels = judged-here here; unlawful = λ _. e; lawful = λ z. absurd (nz z) }
 
   pub lawful-brought : (names′ facts′ contexts′ orders′ heads′ words′ : List ℕ) (r : Judged) → cause ≡ 0
       → FieldBrought file refs (store names facts contexts orders heads) (store names′ facts′ contexts′ orders′ heads′) c ph n p q k at words words′ declared r
+      → site ≡ record { outer = 0; params = p; owner = c .modules; start = at; count = k }
       → FieldLawful file refs (store names facts contexts orders heads) (store names′ facts′ contexts′ orders′ heads′) c ph n p q k at words words′ declared r
-  lawful-brought names′ facts′ contexts′ orders′ heads′ words′ r z b =
-      record { size = b .forms .size; cause = cause; levels = levels; unlawful = λ nz. absurd (nz z); lawful = λ _. b }
+  lawful-brought names′ facts′ contexts′ orders′ heads′ words′ r z b here =
+      record { size = b .forms .size; cause = cause; levels = judged-here here; unlawful = λ nz. absurd (nz z); lawful = λ _. b }

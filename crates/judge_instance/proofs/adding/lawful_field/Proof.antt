@@ -1,3 +1,4 @@
+use mathlib.Core.Path.{refl}
 use Rattle.judge_instance.proofs.FieldJudged.{lawful-brought, lawful-not}
 use borrow.Author.Needs.{needs}
 use Rattle.judge_instance.proofs.adding.lawful_field.Statement.{statement}
@@ -28,7 +29,7 @@ same-length-6 : tie.Need-same-length-6
 same-length-6 c = search needs
 
 returns : tie.Need-returns
-returns c = search lawful-not
+returns c = lawful-not _ _ _ _ _ _ _ _ _ _ _ _ _ _ _ _ _ _ (c .before .before .substitutes-cause .ensures) _ (search needs) (c .refused .ensures) refl
 
 bring-field-requires : tie.Need-bring-field-requires
 bring-field-requires c κs = search needs
@@ -52,7 +53,7 @@ same-length-12 : tie.Need-same-length-12
 same-length-12 c = search needs
 
 returns-2 : tie.Need-returns-2
-returns-2 c = search lawful-brought
+returns-2 c = lawful-brought _ _ _ _ _ _ _ _ _ _ _ _ _ _ _ _ _ _ (c .before .before .before .before .before .before .before .before .before .before .before .before .before .before .before .before .before .before .before .before .substitutes-cause .ensures) _ _ _ _ _ _ _ (search needs) (c .before .before .before .before .before .before .before .before .before .before .before .before .bring-field .ensures) refl
 
 pub lawful-field-spec : {M : Type 1} → statement M
 lawful-field-spec =
