@@ -1,18 +1,17 @@
 -- What the code's answers cite: one lemma for each way through a function, over plain values.
 use mathlib.Core.Path.{_≡_, refl, sym, ap, ap₂, _∙_}
-use mathlib.Core.Bool.{true}
 use mathlib.Core.List.{List}
-use Prim.Native.Nat.{ℕ, zero, suc, _+_, _*_, _%_, _^_, _≤_, _<_}
+use Prim.Native.Nat.{ℕ, suc, _+_, _*_, _%_, _^_, _≤_, _<_}
 use native.Mathlib.Nat.{mod-eq-of-lt}
 use native.Mathlib.Omega.{arith}
-use borrow.Author.Tests.{eq-eqb, ltb-true, ne-eqb}
+use borrow.Author.Tests.{eq-eqb, ne-eqb}
 use lib.Bits.{bitAnd, bitOr, or-zero-r}
-use lib.Dec.{eqb, ltb}
+use lib.Dec.{T, ltb, ltb→lt}
 use lib.ListN.{getD, length, List·getD-eq-default}
 use lib.Pow.{shl-exact}
 use Rattle.forms.specs.Labels.{Digit, after, after3, coded, kept, refused, under, under3, whole}
 use Rattle.forms.specs.Forms.{GivesBits, bitsAt}
-use Rattle.forms.proofs.Finite.{below, holds}
+use Rattle.rows.proofs.Columns.{below, below-at}
 use Rattle.forms.proofs.Laws.{under-zero, whole-under}
 use Rattle.forms.proofs.Forms.{bits-base, bits-one, bits-or}
 
@@ -30,8 +29,8 @@ refused-none l x h = rw (eq-eqb (bitAnd (bitAnd l x) 6) 0 h)
 pub refused-all : (l x : ℕ) → (bitAnd (bitAnd l x) 6 ≡ 0 → ⊥) → 7 ≡ refused l x
 refused-all l x h = rw (ne-eqb (bitAnd (bitAnd l x) 6) 0 h)
 
-small : (f : ℕ → ℕ → ℕ) → below 8 (λ i. below 8 (λ j. ltb (f i j) 8)) ≡ true → (i j : ℕ) → i < 8 → j < 8 → f i j < 8
-small f e i j h k = ltb-true (f i j) 8 (holds 8 (λ j. ltb (f i j) 8) (holds 8 (λ i. below 8 (λ j. ltb (f i j) 8)) e i h) j k)
+small : (f : ℕ → ℕ → ℕ) → T (below (λ i. below (λ j. ltb (f i j) 8) 8) 8) → (i j : ℕ) → i < 8 → j < 8 → f i j < 8
+small f t i j h k = ltb→lt (f i j) 8 (below-at (λ j. ltb (f i j) 8) 8 j (below-at (λ i. below (λ j. ltb (f i j) 8) 8) 8 i t h) k)
 
 digit : (a : ℕ) → a < 8 → a % 8 ≡ a
 digit a h = mod-eq-of-lt h
@@ -39,7 +38,7 @@ digit a h = mod-eq-of-lt h
 pub level-under-is : (l x a b : ℕ) → l < 8 → x < 8 → a ≡ kept l x → b ≡ refused l x → Digit (under l x) (bitOr a b)
 unfolding under
 level-under-is l x a b hl hx ea eb =
-    record { same = ap₂ bitOr ea eb ∙ sym (ap₂ under3 (digit l hl) (digit x hx)); low = rw (ea, eb) (small under3 refl l x hl hx) }
+    record { same = ap₂ bitOr ea eb ∙ sym (ap₂ under3 (digit l hl) (digit x hx)); low = rw (ea, eb) (small under3 tt l x hl hx) }
 
 pub after-none : (l m : ℕ) → l < 8 → m < 8 → l ≡ 0 → Digit (after l m) 0
 unfolding after
@@ -49,7 +48,7 @@ pub after-some : (l m a : ℕ) → l < 8 → m < 8 → (l ≡ 0 → ⊥) → a �
 unfolding after
 after-some l m a hl hm z e =
     let s : bitOr (bitAnd m 6) a ≡ after3 l m = rw (ne-eqb l 0 z) (ap (bitOr (bitAnd m 6)) e) in
-    record { same = s ∙ sym (ap₂ after3 (digit l hl) (digit m hm)); low = rw s (small after3 refl l m hl hm) }
+    record { same = s ∙ sym (ap₂ after3 (digit l hl) (digit m hm)); low = rw s (small after3 tt l m hl hm) }
 
 -- ---- forms
 

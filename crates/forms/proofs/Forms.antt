@@ -4,14 +4,14 @@ use mathlib.Core.List.{List, [], _∷_}
 use Prim.Native.Nat.{ℕ, zero, suc, _+_, _*_, _/_, _%_, _^_, _≤_, _<_}
 use native.Mathlib.Nat.{mul-one, mul-assoc, mul-div-cancel, mul-mod-left, zero-lt-suc}
 use native.Mathlib.Omega.{arith}
-use borrow.Author.Tests.{ltb-true}
 use lib.Bits.{bitOr, or-comm, or-lt, or-shr, or-zero-r}
-use lib.Dec.{ltb}
+use lib.Dec.{ltb, ltb→lt}
 use lib.ListN.{getD}
 use lib.Pow.{pow-add}
 use Rattle.forms.specs.Labels.{coded, levelOf, under, under3, whole}
 use Rattle.forms.specs.Forms.{bitsAt, gives, levelAt}
-use Rattle.forms.proofs.Finite.{below, holds, same}
+use Rattle.forms.proofs.Finite.{same}
+use Rattle.rows.proofs.Columns.{below, below-at}
 use Rattle.forms.proofs.Laws.{coded-level, level-low, level-whole, or-assoc, under-both, under-free, under-none, under-zero, whole-coded, whole-free, whole-or, whole-under, whole-whole}
 
 pub or-swap : (a b c d : ℕ) → bitOr (bitOr a b) (bitOr c d) ≡ bitOr (bitOr a c) (bitOr b d)
@@ -100,7 +100,7 @@ at-low w v = level-low (bitsAt w v)
 -- under no mask all that labels give counts
 under-small : (l x : ℕ) → under l x < 8
 unfolding under
-under-small l x = ltb-true (under3 (l % 8) (x % 8)) 8 (holds 8 (λ j. ltb (under3 (l % 8) j) 8) (holds 8 (λ i. below 8 (λ j. ltb (under3 i j) 8)) refl (l % 8) (omega arith)) (x % 8) (omega arith))
+under-small l x = ltb→lt (under3 (l % 8) (x % 8)) 8 (below-at (λ j. ltb (under3 (l % 8) j) 8) 8 (x % 8) (below-at (λ i. below (λ j. ltb (under3 i j) 8) 8) 8 (l % 8) tt (omega arith)) (omega arith))
 
 gives-small : (w : ℕ) (v : List ℕ) → gives w v < 8
 gives-small w [] = omega arith
@@ -108,4 +108,4 @@ gives-small w (x ∷ v) = or-lt 3 (under w (coded x)) (gives (w / 8) v) (under-s
 
 pub under-all : (w : ℕ) (v : List ℕ) → under 1 (gives w v) ≡ gives w v
 unfolding under
-under-all w v = same 8 (λ x. under3 1 (x % 8)) (λ x. x) refl (gives w v) (gives-small w v)
+under-all w v = same 8 (λ x. under3 1 (x % 8)) (λ x. x) tt (gives w v) (gives-small w v)

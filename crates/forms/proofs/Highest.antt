@@ -17,7 +17,7 @@ use Rattle.forms.proofs.Laws.{coded-min, level-coded, under-plain}
 use Rattle.forms.proofs.Forms.{bits-base}
 
 higher-coded : (l m : ℕ) → IsLevel l → IsLevel m → coded (higher l m) ≡ bitOr (coded l) (coded m)
-higher-coded l m h k = same₂ 5 5 (λ l m. coded (higher l m)) (λ l m. bitOr (coded l) (coded m)) refl l m (omega arith) (omega arith)
+higher-coded l m h k = same₂ 5 5 (λ l m. coded (higher l m)) (λ l m. bitOr (coded l) (coded m)) tt l m (omega arith) (omega arith)
 
 pub highest-coded : (l : ℕ) (ls : List ℕ) → All IsLevel (l ∷ ls) → coded (highest (l ∷ ls)) ≡ bitOr (coded l) (coded (highest ls))
 highest-coded l ls a = ap coded (highest-cons l ls (a .0) (a .1)) ∙ higher-coded l (highest ls) (a .0) (highest-level ls (a .1))

@@ -6,11 +6,11 @@ use native.Mathlib.Omega.{arith}
 use lib.Arith.{bin-ind, digits-div, digits-mod}
 use lib.Bits.{bitOr, or-mod, or-step}
 use Rattle.forms.specs.Labels.{after, after3, coded, levelOf, under, under3, whole}
-use borrow.Author.Tests.{leb-true}
 use mathlib.Core.List.{List, [], _∷_}
-use lib.Dec.{leb}
+use lib.Dec.{leb, leb→le}
 use lib.ListN.{getD}
-use Rattle.forms.proofs.Finite.{holds, same, same₂, same₃}
+use Rattle.rows.proofs.Columns.{below-at}
+use Rattle.forms.proofs.Finite.{same, same₂, same₃}
 
 abbrev levelList : List ℕ
 levelList = 0 ∷ 1 ∷ 2 ∷ 2 ∷ 3 ∷ 3 ∷ 4 ∷ 4 ∷ []
@@ -47,26 +47,26 @@ pub under-or : (l x y : ℕ) → under l (bitOr x y) ≡ bitOr (under l x) (unde
 unfolding under
 under-or l x y =
     ap (under3 (l % 8)) (or-mod x y 3)
-    ∙ same₃ 8 8 8 (λ l x y. under3 l (bitOr x y)) (λ l x y. bitOr (under3 l x) (under3 l y)) refl (l % 8) (x % 8) (y % 8) (low l) (low x) (low y)
+    ∙ same₃ 8 8 8 (λ l x y. under3 l (bitOr x y)) (λ l x y. bitOr (under3 l x) (under3 l y)) tt (l % 8) (x % 8) (y % 8) (low l) (low x) (low y)
 
 pub under-both : (l m x : ℕ) → under (bitOr l m) x ≡ bitOr (under l x) (under m x)
 unfolding under
 under-both l m x =
     ap (λ (k : ℕ). under3 k (x % 8)) (or-mod l m 3)
-    ∙ same₃ 8 8 8 (λ l m x. under3 (bitOr l m) x) (λ l m x. bitOr (under3 l x) (under3 m x)) refl (l % 8) (m % 8) (x % 8) (low l) (low m) (low x)
+    ∙ same₃ 8 8 8 (λ l m x. under3 (bitOr l m) x) (λ l m x. bitOr (under3 l x) (under3 m x)) tt (l % 8) (m % 8) (x % 8) (low l) (low m) (low x)
 
 pub under-after : (l m x : ℕ) → under l (under m x) ≡ under (after l m) x
 unfolding under after
 under-after l m x =
-    same₃ 8 8 8 (λ l m x. under3 l (under3 m x % 8)) (λ l m x. under3 (after3 l m % 8) x) refl (l % 8) (m % 8) (x % 8) (low l) (low m) (low x)
+    same₃ 8 8 8 (λ l m x. under3 l (under3 m x % 8)) (λ l m x. under3 (after3 l m % 8) x) tt (l % 8) (m % 8) (x % 8) (low l) (low m) (low x)
 
 pub under-none : (x : ℕ) → under 0 x ≡ 0
 unfolding under
-under-none x = same 8 (λ x. under3 0 x) (λ x. 0) refl (x % 8) (low x)
+under-none x = same 8 (λ x. under3 0 x) (λ x. 0) tt (x % 8) (low x)
 
 pub under-zero : (l : ℕ) → under l 0 ≡ 0
 unfolding under
-under-zero l = same 8 (λ l. under3 l 0) (λ l. 0) refl (l % 8) (low l)
+under-zero l = same 8 (λ l. under3 l 0) (λ l. 0) tt (l % 8) (low l)
 
 mod-twice : (a : ℕ) → a % 8 % 8 ≡ a % 8
 mod-twice a = omega arith
@@ -89,7 +89,7 @@ pub whole-or : (a b : ℕ) → whole (bitOr a b) ≡ bitOr (whole a) (whole b)
 unfolding whole levelOf
 whole-or a b =
     ap (λ (x : ℕ). coded (getD levelList x 0)) (or-mod a b 3)
-    ∙ same₂ 8 8 (λ a b. coded (getD levelList (bitOr a b) 0)) (λ a b. bitOr (coded (getD levelList a 0)) (coded (getD levelList b 0))) refl (a % 8) (b % 8) (low a) (low b)
+    ∙ same₂ 8 8 (λ a b. coded (getD levelList (bitOr a b) 0)) (λ a b. bitOr (coded (getD levelList a 0)) (coded (getD levelList b 0))) tt (a % 8) (b % 8) (low a) (low b)
 
 pub whole-free : (a : ℕ) → a % 8 ≡ 0 → whole a ≡ 0
 unfolding whole levelOf
@@ -102,12 +102,12 @@ whole-digit a = ap (λ (x : ℕ). coded (getD levelList x 0)) (mod-twice a)
 pub whole-whole : (a : ℕ) → whole (whole a) ≡ whole a
 unfolding whole levelOf
 whole-whole a =
-    same 8 (λ a. coded (getD levelList (coded (getD levelList a 0) % 8) 0)) (λ a. coded (getD levelList a 0)) refl (a % 8) (low a)
+    same 8 (λ a. coded (getD levelList (coded (getD levelList a 0) % 8) 0)) (λ a. coded (getD levelList a 0)) tt (a % 8) (low a)
 
 pub whole-under : (l x : ℕ) → whole (under l x) ≡ under l (whole x)
 unfolding whole levelOf under
 whole-under l x =
-    same₂ 8 8 (λ l x. coded (getD levelList (under3 l x % 8) 0)) (λ l x. under3 l (coded (getD levelList x 0) % 8)) refl (l % 8) (x % 8) (low l) (low x)
+    same₂ 8 8 (λ l x. coded (getD levelList (under3 l x % 8) 0)) (λ l x. under3 l (coded (getD levelList x 0) % 8)) tt (l % 8) (x % 8) (low l) (low x)
 
 pub whole-coded : (l : ℕ) → whole (coded l) ≡ coded l
 unfolding whole levelOf
@@ -123,7 +123,7 @@ coded-level b = refl
 
 pub level-coded : (l : ℕ) → l ≤ 4 → levelOf (coded l) ≡ l
 unfolding levelOf
-level-coded l h = same 5 (λ l. getD levelList (coded l % 8) 0) (λ l. l) refl l (omega arith)
+level-coded l h = same 5 (λ l. getD levelList (coded l % 8) 0) (λ l. l) tt l (omega arith)
 
 pub coded-min : (l : ℕ) → coded (min 4 l) ≡ coded l
 coded-min zero = refl
@@ -134,7 +134,7 @@ coded-min (suc (suc (suc (suc n)))) = let e : min 4 (suc (suc (suc (suc n)))) �
 
 pub level-low : (b : ℕ) → levelOf b ≤ 4
 unfolding levelOf
-level-low b = leb-true (getD levelList (b % 8) 0) 4 (holds 8 (λ b. leb (getD levelList b 0) 4) refl (b % 8) (low b))
+level-low b = leb→le (getD levelList (b % 8) 0) 4 (below-at (λ b. leb (getD levelList b 0) 4) 8 (b % 8) tt (low b))
 
 pub level-whole : (b : ℕ) → levelOf (whole b) ≡ levelOf b
 unfolding whole

@@ -16,7 +16,7 @@ use Rattle.forms.proofs.Forms.{gives-whole}
 -- ---- levels and bits
 
 pub bits-low : (l : ℕ) → l < 2 → Digit (coded l) l
-bits-low l h = record { same = same 2 (λ x. x) coded refl l h; low = omega arith }
+bits-low l h = record { same = same 2 (λ x. x) coded tt l h; low = omega arith }
 
 pub bits-two : (l : ℕ) → l ≡ 2 → Digit (coded l) 3
 bits-two l e = rw e record { same = refl; low = omega arith }
@@ -33,13 +33,13 @@ bits-high (suc (suc (suc (suc n)))) a b c = record { same = refl; low = omega ar
 
 pub level-low-bits : (b : ℕ) → b < 2 → b ≡ levelOf b
 unfolding levelOf
-level-low-bits b h = same 2 (λ x. x) levelOf refl b h
+level-low-bits b h = same 2 (λ x. x) levelOf tt b h
 
 pub level-high-bits : (b : ℕ) → b < 8 → 2 ≤ b → b / 2 + 1 ≡ levelOf b
 unfolding levelOf
 level-high-bits b h k =
     let e : b ≡ b - 2 + 2 = omega arith in
-    ap (λ (x : ℕ). x / 2 + 1) e ∙ same 6 (λ x. (x + 2) / 2 + 1) (λ x. levelOf (x + 2)) refl (b - 2) (omega arith) ∙ sym (ap levelOf e)
+    ap (λ (x : ℕ). x / 2 + 1) e ∙ same 6 (λ x. (x + 2) / 2 + 1) (λ x. levelOf (x + 2)) tt (b - 2) (omega arith) ∙ sym (ap levelOf e)
 
 -- ---- the level
 

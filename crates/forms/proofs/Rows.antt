@@ -1,34 +1,28 @@
 -- The form of a code's row gives the row's level, by one computed test over the table.
 use mathlib.Core.Path.{_≡_, refl, sym, ap}
-use mathlib.Core.Bool.{Bool, true, false, not}
+use mathlib.Core.Bool.{Bool}
 use mathlib.Core.List.{List}
 use mathlib.Core.Option.{Option, none as absent, some}
 use Prim.Native.Nat.{ℕ}
-use borrow.Author.Tests.{eqb-true}
 use lib.Bits.{bitOr}
-use lib.Dec.{eqb}
+use lib.Dec.{T, eqb, eqb→eq}
 use lib.ListN.{length}
 use Rattle.theory.specs.Level.{IsLevel, Row, builtinLevel, has, row, rowLevel, table}
 use Rattle.theory.specs.Lists.{All, mapOption}
-use Rattle.theory.proofs.Lists.{any-false, find-has}
+use Rattle.theory.proofs.Finite.{at-list, atLists}
+use Rattle.theory.proofs.Lists.{every-all, find-has}
 use Rattle.rows.specs.Rows.{arityOf, arityNumber}
 use Rattle.rows.specs.Numbers.{rowWord, wordOf}
 use Rattle.forms.specs.Labels.{coded, levelOf, under, whole}
 use Rattle.forms.specs.Forms.{bitsAt}
-use Rattle.forms.proofs.Finite.{tuples, tuples-hold}
 use Rattle.forms.proofs.Forms.{gives-none}
 
 abbrev goodRow : Row → Bool
-goodRow r = tuples (length (r .takes)) (λ ls. eqb (coded (rowLevel (some r) ls)) (bitsAt (wordOf (some r)) ls))
+goodRow r = atLists (length (r .takes)) (λ ls. eqb (coded (rowLevel (some r) ls)) (bitsAt (wordOf (some r)) ls))
 
-not-not : (b : Bool) → not b ≡ false → b ≡ true
-not-not true e = refl
-not-not false e = sym e
-
-good-row : (c : ℕ) (r : Row) → row c ≡ some r → goodRow r ≡ true
+good-row : (c : ℕ) (r : Row) → row c ≡ some r → T (goodRow r)
 unfolding row bitsAt whole levelOf under
-good-row c r p =
-    not-not (goodRow r) (find-has (λ (r : Row). not (goodRow r) ≡ false) (has c) table r (any-false (λ (r : Row). not (goodRow r)) table refl) p .0)
+good-row c r p = find-has (λ (r : Row). T (goodRow r)) (has c) table r (every-all goodRow table tt) p .0
 
 -- what the row of a code says of its arguments' levels
 pub row-gives : (c : ℕ) (ls : List ℕ) → length ls ≡ arityOf c → All IsLevel ls → coded (builtinLevel c ls) ≡ bitsAt (rowWord c) ls
@@ -38,5 +32,5 @@ row-gives c ls h a = go (row c) refl h
     go : (o : Option Row) → row c ≡ o → length ls ≡ arityNumber (mapOption (λ r. length (r .takes)) o) → coded (rowLevel o ls) ≡ bitsAt (wordOf o) ls
     go absent p e = ap (bitOr 7) (sym (gives-none ls))
     go (some r) p e =
-        eqb-true (coded (rowLevel (some r) ls)) (bitsAt (wordOf (some r)) ls)
-        (tuples-hold (length (r .takes)) (λ ls. eqb (coded (rowLevel (some r) ls)) (bitsAt (wordOf (some r)) ls)) (good-row c r p) ls e a)
+        eqb→eq (coded (rowLevel (some r) ls)) (bitsAt (wordOf (some r)) ls)
+        (at-list (length (r .takes)) (λ ls. eqb (coded (rowLevel (some r) ls)) (bitsAt (wordOf (some r)) ls)) (good-row c r p) ls a e)
