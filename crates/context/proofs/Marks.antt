@@ -1,6 +1,6 @@
 -- Lists in which each number stands once, with marks that say what is in them.
 use borrow.Author.Tests.{eq-eqb, ne-eqb}
-use mathlib.Core.Bool.{Bool, _||_, cond, false, not, true}
+use mathlib.Core.Bool.{Bool, _||_, cond, false, not, or-assoc, or-false, true}
 use mathlib.Core.List.{List, [], _++_, _∷_}
 use mathlib.Core.Path.{_∙_, _≡_, ap, ap₂, refl, sym}
 use lib.Dec.{eqb}
@@ -13,7 +13,6 @@ use Prim.Native.Nat.{_+_, _<_, _≤_, suc, zero, ℕ}
 use Rattle.context.specs.Joining.{Below, Marked, unset}
 use Rattle.context.specs.Parts.{part}
 use Rattle.theory.proofs.Form.{at}
-use Rattle.theory.proofs.Lists.{or-false}
 use Rattle.theory.specs.Lists.{any}
 
 pub part-below : (base : ℕ) (xs ys : List ℕ) → Below base xs ys → (at n : ℕ) → at + n ≤ base → part ys at n ≡ part xs at n
@@ -61,15 +60,7 @@ marked-room marks l x h k e = omega (arith, h .full, unset-set marks x k e)
 
 member-snoc : (o x : ℕ) (l : List ℕ) → any (eqb o) (l ++ (x ∷ [])) ≡ any (eqb o) l || eqb o x
 member-snoc o x [] = or-false (eqb o x)
-  where
-    or-false : (b : Bool) → b || false ≡ b
-    or-false true = refl
-    or-false false = refl
-member-snoc o x (y ∷ l) = ap (_||_ (eqb o y)) (member-snoc o x l) ∙ or-assoc (eqb o y) (any (eqb o) l) (eqb o x)
-  where
-    or-assoc : (a b c : Bool) → a || (b || c) ≡ (a || b) || c
-    or-assoc true b c = refl
-    or-assoc false b c = refl
+member-snoc o x (y ∷ l) = ap (_||_ (eqb o y)) (member-snoc o x l) ∙ sym (or-assoc (eqb o y) (any (eqb o) l) (eqb o x))
 
 pub marked-push : (marks l : List ℕ) (x : ℕ) → Marked marks l → x < length marks → getD marks x 0 ≡ 0 → Marked (set marks x 1) (l ++ (x ∷ []))
 marked-push marks l x h k e = record {
