@@ -2,8 +2,8 @@
 use mathlib.Core.Path.{_≡_, refl, sym, ap, ap₂, subst, _∙_}
 use mathlib.Core.Bool.{Bool, true, false, cond, _&&_}
 use mathlib.Core.List.{List}
-use mathlib.Core.Option.{Option, none, some}
-use Prim.Native.Nat.{ℕ, _+_, _*_, _≤_, _<_}
+use mathlib.Core.Option.{none, some}
+use Prim.Native.Nat.{ℕ, _+_, _*_, _<_}
 use native.Mathlib.Omega.{arith}
 use borrow.Author.Tests.{eq-eqb, ne-eqb, eqb-true}
 use lib.Dec.{eqb}
@@ -16,7 +16,7 @@ use Rattle.forms.proofs.Tables.{load-other, load-same, stored-length}
 use Rattle.context.specs.Store.{kindAt}
 use Rattle.context.specs.Lookup.{declaredNamed}
 use Rattle.entering.specs.declared.substitutes.Site.{Site}
-use Rattle.entering.specs.Substitutes.{Added, Around, Stands, Substituted, nextWords, ofKind, sameDeclared}
+use Rattle.entering.specs.Substitutes.{Around, Stands, Substituted, nextWords, ofKind, sameDeclared}
 use Rattle.entering.specs.Shared.{Again, sameKind}
 use Rattle.entering.proofs.Substituting.{substituted-turn}
 

@@ -9,7 +9,6 @@ use lib.Seq.{getD-set-same, getD-set-other}
 use Rattle.limits.specs.Limits.{maxDeclarations, maxDefinitions}
 use Rattle.levels.specs.Tables.{tableWords}
 use Rattle.entering.specs.Replaced.{Replaced}
-use Rattle.entering.specs.Substitutes.{nextWords}
 
 -- the first j words are copied
 pub record Copied (next before after : List ℕ) (j : ℕ) : Type 0 where

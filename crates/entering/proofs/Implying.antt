@@ -5,7 +5,6 @@ use mathlib.Core.List.{List, _++_}
 use Prim.Native.Nat.{ℕ, _+_, _/_, _%_, _^_, _≤_, _<_}
 use native.Mathlib.Omega.{arith}
 use borrow.Author.Tests.{lt-ltb, le-ltb, le-leb, lt-leb}
-use lib.Dec.{ltb}
 use lib.Bits.{bitOr}
 use lib.ListN.{getD, length}
 use Rattle.limits.specs.Limits.{maxArity, maxDeclarations, maxDefinitions}
@@ -19,10 +18,10 @@ use Rattle.forms.proofs.Leading.{gives-append, params-length}
 use Rattle.levels.specs.Tables.{placeOf, sceneOf}
 use Rattle.levels.proofs.Heads.{same-place}
 use Rattle.context.specs.Store.{firstAt}
-use Rattle.context.specs.Lookup.{isDeclared, operatorIn}
+use Rattle.context.specs.Lookup.{isDeclared}
 use Rattle.context.specs.declared.Operator.{Operator}
 use Rattle.context.specs.declared.Operator.the-variants.{Constant, Variable, Defined, Unknown}
-use Rattle.entering.specs.Implied.{argumentsOf, impliedLevel, impliedRef, numberOf, refOf}
+use Rattle.entering.specs.Implied.{argumentsOf, impliedLevel, numberOf, refOf}
 
 module _ (facts : List ℕ) (o : ℕ) where
   pub number-declared : (b : Bool) (d : ℕ) → b ≡ isDeclared facts o → b ≡ true → d ≡ firstAt facts o → d < maxDeclarations → d ≡ numberOf facts o

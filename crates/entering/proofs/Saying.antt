@@ -1,16 +1,16 @@
 -- Where the tables show a world, a text read by them has the level that its term has in the world.
-use mathlib.Core.Path.{_≡_, refl, sym, ap, ap₂, subst, _∙_}
+use mathlib.Core.Path.{_≡_, refl, sym, ap, ap₂, _∙_}
 use mathlib.Core.Bool.{Bool, true, false, cond}
 use mathlib.Core.List.{List, [], _∷_, _++_}
-use Prim.Native.Nat.{ℕ, zero, suc, _+_, _-_, _≤_, _<_, min}
-use native.Mathlib.Nat.{add-suc, zero-add}
+use Prim.Native.Nat.{ℕ, zero, suc, _+_, _-_, _≤_, _<_}
+use native.Mathlib.Nat.{add-suc}
 use native.Mathlib.Omega.{arith}
 use lib.Dec.{ltb}
 use lib.ListN.{drop, getD, length, take}
 use lib.Seq.{getD-drop, length-take-le}
 use Rattle.limits.specs.Limits.{maxDefinitions, maxNesting}
 use Rattle.theory.specs.Level.{IsLevel, bindsIn, incorrect, plain}
-use Rattle.theory.specs.Lists.{All, numbersFrom}
+use Rattle.theory.specs.Lists.{All}
 use Rattle.theory.specs.Tree.{_▹_, count, mapTrees, node, ⟨⟩}
 use Rattle.theory.specs.Term.{Arities, Every, Everys, Fits, Head, Kind, Term, Terms, binder, declared, defined, eval, evals, kindArity, longWay}
 use Rattle.theory.specs.Expand.{itself, paramsFrom}
@@ -20,13 +20,13 @@ use Rattle.tokens.specs.Expr.{Expr, Exprs, Placed, exprAt, found}
 use Rattle.tokens.specs.declared.Token.{Token}
 use Rattle.tokens.specs.declared.Token.the-variants.{Parameter, Bound, Name, InstanceOperator, BuiltIn, Literal, NoToken}
 use Rattle.texts.specs.Text.{Declarations, firsts, named, noDeclaration, refHead, shown, tokenHead}
-use Rattle.texts.proofs.Levels.{AllSay, AllsSay, Says, TokenSays, firsts-take, headMeaning, level-shown, own-level}
+use Rattle.texts.proofs.Levels.{AllSay, AllsSay, TokenSays, firsts-take, headMeaning, level-shown, own-level}
 use Rattle.forms.specs.Forms.{Gives, levelAt, width}
 use Rattle.levels.specs.Tables.{namesOf, sceneOf}
 use Rattle.forms.proofs.Highest.{low-params}
 use Rattle.forms.proofs.Leading.{params-length}
 use Rattle.levels.specs.Walk.{TextForm}
-use Rattle.worlds.specs.World.{World, evalAt, numberIn, paramsIn, readDefined}
+use Rattle.worlds.specs.World.{World, evalAt, paramsIn, readDefined}
 use Rattle.worlds.specs.Tables.{Table, byTables, declaredBy}
 use Rattle.forms.specs.Forms.{paramLevels}
 use Rattle.entering.specs.Implied.{impliedLevel}

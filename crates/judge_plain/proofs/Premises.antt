@@ -1,6 +1,6 @@
 -- What the laws ask of a state holds in every state that lawful fields reach.
 use mathlib.Core.List.{List, [], _∷_}
-use mathlib.Core.Option.{Option, none, some}
+use mathlib.Core.Option.{none, some}
 use mathlib.Core.Path.{_∙_, _≡_, ap, refl, subst, sym}
 use mathlib.Core.Bool.{Bool, _&&_, cond, false, true}
 use lib.Dec.{T, ltb, ltb→lt}
@@ -18,7 +18,7 @@ use Rattle.laws.proofs.Invariant.{Good, ModuleKnown}
 use Rattle.rules.specs.Add.{add}
 use Rattle.rules.specs.Field.{Field, assume, begin-module, declare-constant, declare-variable, definition, end-module, extends, instance, theorem}
 use Rattle.rules.specs.Judge.{Cause, causes, firstCause, judge}
-use Rattle.rules.specs.State.{Module, State, begun, here, inside, noModule, outside, start}
+use Rattle.rules.specs.State.{Module, State, begun, inside, noModule, outside, start}
 use Rattle.rules.specs.State as rules
 use Rattle.theory.proofs.Lists.{and-parts, at-all}
 use Rattle.theory.specs.Lists.{All}

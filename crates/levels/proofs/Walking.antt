@@ -3,7 +3,7 @@ use mathlib.Core.Path.{_≡_, refl, sym, ap, _∙_, subst}
 use mathlib.Core.Bool.{Bool, cond, false, true}
 use mathlib.Core.List.{List, _∷_}
 use mathlib.Core.Logic.{_⊎_, inl, inr}
-use Prim.Native.Nat.{ℕ, zero, suc, _+_, _-_, _*_, _/_, _%_, _^_, _≤_, _<_}
+use Prim.Native.Nat.{ℕ, suc, _+_, _-_, _*_, _/_, _%_, _^_, _≤_, _<_}
 use native.Mathlib.Nat.{pow-succ', pow-le-pow-right}
 use native.Mathlib.Omega.{arith}
 use borrow.Author.Tests.{eq-eqb, le-leb, ne-eqb}
@@ -18,7 +18,7 @@ use Rattle.tokens.specs.Token.{argumentsOf, isToken, taggedAt, tokenAt, widthOf
 use Rattle.tokens.specs.Expr.{Expr, Found, Founds, after as behind, before, exprAt, found, founds, none, nones, over, several}
 use Rattle.tokens.specs.Fold.{fold, folds, under as scoped, underOf}
 use Rattle.tokens.specs.declared.Token.{Token}
-use Rattle.tokens.specs.declared.Token.the-variants.{Parameter, Name, BuiltIn, NoToken}
+use Rattle.tokens.specs.declared.Token.the-variants.{Parameter, BuiltIn, NoToken}
 use Rattle.tokens.proofs.Folding.{Scoped, scoped-at}
 use Rattle.tokens.proofs.Places.{never, written-count}
 use Rattle.tokens.proofs.Reading.{expr-more, expr-none, expr-zero, several-more}
