@@ -1,6 +1,6 @@
 -- `brought`: the first definitions have their forms.
 use borrow.Author.Tests.{eq-eqb, eqb-true}
-use mathlib.Core.Bool.{Bool, _||_, false, true}
+use mathlib.Core.Bool.{Bool, _||_, false, or-assoc, or-false, true}
 use mathlib.Core.List.{List}
 use mathlib.Core.Logic.{_⊎_, _≢_, inl, inr}
 use mathlib.Core.Path.{_∙_, _≡_, ap, ap₂, refl, subst, sym}
@@ -32,19 +32,11 @@ zeros-levels : (k : ℕ) → All IsLevel (zeros k)
 zeros-levels zero = tt
 zeros-levels (suc k) = (omega arith, zeros-levels k)
 
-or-assoc : (a b c : Bool) → (a || (b || c)) ≡ ((a || b) || c)
-or-assoc true b c = refl
-or-assoc false b c = refl
-
-or-false : (a : Bool) → (a || false) ≡ a
-or-false true = refl
-or-false false = refl
-
 any-last : (p : ℕ → Bool) (i k : ℕ) → any p (numbersFrom i (suc k)) ≡ (any p (numbersFrom i k) || p (i + k))
 any-last p i zero = or-false (p i) ∙ ap p (omega arith)
 any-last p i (suc k) =
     ap (λ (b : Bool). p i || b) (any-last p (suc i) k ∙ ap (λ (m : ℕ). any p (numbersFrom (suc i) k) || p m) (omega arith))
-    ∙ or-assoc (p i) (any p (numbersFrom (suc i) k)) (p (i + suc k))
+    ∙ sym (or-assoc (p i) (any p (numbersFrom (suc i) k)) (p (i + suc k)))
 
 turned : (l : ℕ) → eqb l 4 ≡ eqb 4 l
 turned l = go (eqb l 4) refl (eqb 4 l) refl

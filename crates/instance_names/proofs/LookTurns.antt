@@ -1,6 +1,6 @@
 -- The walks over the substitutions, one after another; and the causes in their order.
 use borrow.Author.Tests.{le-leb, le-ltb, lt-leb, lt-ltb}
-use mathlib.Core.Bool.{Bool, _||_, false, true}
+use mathlib.Core.Bool.{Bool, _||_, false, or-assoc, or-false, true}
 use mathlib.Core.List.{List, [], _∷_}
 use mathlib.Core.Path.{_∙_, _≡_, ap, refl, subst, sym}
 use Prim.Native.Nat.{ℕ, zero, suc, _+_, _-_, _≤_, _<_}
@@ -17,14 +17,6 @@ use Rattle.instance_names.specs.Causes.{NameCauses, firstCauses, nameCau
 use Rattle.instance_names.specs.Looking.{LooksEach, LooksOne}
 use Rattle.instance_names.specs.Sites.{miscountedAmong, unknownAmong, arityThere, clashesAt, nextStart, overLimits, repeatedFrom, starts, undeclaredIn}
 use Rattle.instance_names.specs.declared.Site.{Site}
-
-or-none : (a : Bool) → a || false ≡ a
-or-none true = refl
-or-none false = refl
-
-or-assoc : (a b c : Bool) → a || (b || c) ≡ (a || b) || c
-or-assoc true b c = refl
-or-assoc false b c = refl
 
 module _ (file names facts contexts heads : List ℕ) (x : Site) where
   pub look-one : (at n k p y : ℕ) (refs refs′ : List ℕ) (u w : Bool) → n ≡ numberAt file at → k ≡ arityThere names facts contexts heads x n → p ≡ x .params + k
@@ -49,8 +41,8 @@ module _ (file names facts contexts heads : List ℕ) (x : Site) where
   ended refs₀ refs at left u w so e =
       let all = so .finish refs false false
       (subst (λ (l : List ℕ). LooksEach file names facts contexts heads x l refs refs false false) (sym e) (refl, refl, refl)) in
-      subst (λ (b : Bool). LooksEach file names facts contexts heads x (starts (x .count) file (x .at)) refs₀ refs u b) (or-none w)
-      (subst (λ (b : Bool). LooksEach file names facts contexts heads x (starts (x .count) file (x .at)) refs₀ refs b (w || false)) (or-none u) all)
+      subst (λ (b : Bool). LooksEach file names facts contexts heads x (starts (x .count) file (x .at)) refs₀ refs u b) (or-false w)
+      (subst (λ (b : Bool). LooksEach file names facts contexts heads x (starts (x .count) file (x .at)) refs₀ refs b (w || false)) (or-false u) all)
 
   module _ (refs₀ refs : List ℕ) (at left : ℕ) (u w : Bool) (so : Looked refs₀ refs at left u w) where
     pub look-end : left ≤ 0 → LooksEach file names facts contexts heads x (starts (x .count) file (x .at)) refs₀ refs u w
@@ -74,9 +66,9 @@ module _ (file names facts contexts heads : List ℕ) (x : Site) where
           (subst (λ (l : List ℕ). LooksEach file names facts contexts heads x l refs refs₂ (u₁ || u₂) (w₁ || w₂)) (sym (turn left h))
           (record { between = refs₁; y = y; u₁ = u₁; w₁ = w₁; u₂ = u₂; w₂ = w₂; one = one; rest = rest; unknown = refl; miscounted = refl })) in
           subst (λ (b : Bool). LooksEach file names facts contexts heads x (starts (x .count) file (x .at)) refs₀ refs₂ (u′ || u₂) b)
-          (or-assoc w w₁ w₂ ∙ ap (λ (b : Bool). b || w₂) (sym f))
+          (sym (or-assoc w w₁ w₂) ∙ ap (λ (b : Bool). b || w₂) (sym f))
           (subst (λ (b : Bool). LooksEach file names facts contexts heads x (starts (x .count) file (x .at)) refs₀ refs₂ b (w || (w₁ || w₂)))
-          (or-assoc u u₁ u₂ ∙ ap (λ (b : Bool). b || u₂) (sym e)) all);
+          (sym (or-assoc u u₁ u₂) ∙ ap (λ (b : Bool). b || u₂) (sym e)) all);
     }
       where
         turn : (k : ℕ) → 0 < k → starts k file at ≡ at ∷ starts (k - 1) file next
