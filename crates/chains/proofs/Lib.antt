@@ -6,4 +6,3 @@ pub mod Copies
 pub mod Linking
 pub mod Along
 pub mod Bringing
-pub mod Showing
