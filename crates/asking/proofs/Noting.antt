@@ -2,7 +2,7 @@
 use mathlib.Core.Bool.{Bool, cond, false, true}
 use mathlib.Core.List.{List, [], _∷_}
 use mathlib.Core.Path.{_∙_, _≡_, ap, refl}
-use Prim.Native.Nat.{ℕ, zero, suc, _<_}
+use Prim.Native.Nat.{ℕ, _<_}
 use native.Mathlib.Omega.{arith}
 use lib.ListN.{getD, length, length-map, set}
 use lib.Seq.{set-getD}
@@ -14,6 +14,7 @@ use Rattle.tokens.specs.Token.{tokenAt}
 use Rattle.tokens.specs.declared.Token.{Token}
 use Rattle.texts.specs.Noted.{isName, note, noted, noteds}
 use Rattle.texts.proofs.Noting.{noted-length}
+use Rattle.levels.proofs.Numbered.{numbers-length}
 use Rattle.resolve.specs.Walk.{Looks, Notes, miscountedIn, numberIn, unknownIn}
 use Rattle.text_levels.proofs.OwnWorld.{AllRefsBelow, RefsBelow}
 use Rattle.agree.specs.Folds.{searching}
@@ -48,10 +49,6 @@ mutual
   noteds-same : (ts : Exprs) (look : Token → ℕ) (refs : List ℕ) → ReadsAll look refs ts → noteds look ts refs ≡ refs
   noteds-same ⟨⟩ look refs r = refl
   noteds-same (t ▹ ts) look refs (a, b) = ap (noteds look ts) (noted-same t look refs a) ∙ noteds-same ts look refs b
-
-numbers-length : (i n : ℕ) → length (numbersFrom i n) ≡ n
-numbers-length i zero = refl
-numbers-length i (suc n) = ap suc (numbers-length (suc i) n)
 
 pub table-length : (names facts cs s : List ℕ) → length (numbersIn names facts cs s) ≡ length s
 unfolding numbersIn

@@ -18,7 +18,7 @@ pub record Numbered (d out : List ℕ) (i : ℕ) : Type 0 where
 pub numbered-start : (d : List ℕ) → Numbered d d 0
 numbered-start d = record { upTo = omega arith; same = paste-zero d 0 (numbersFrom 0 maxDefinitions) }
 
-numbers-length : (i n : ℕ) → length (numbersFrom i n) ≡ n
+pub numbers-length : (i n : ℕ) → length (numbersFrom i n) ≡ n
 numbers-length i zero = refl
 numbers-length i (suc n) = ap suc (numbers-length (suc i) n)
 
