@@ -1,6 +1,6 @@
 -- One lemma for each way through the functions that judge the levels of substitutes.
 use borrow.Author.Tests.{eq-eqb, eqb-true, ne-eqb}
-use mathlib.Core.Bool.{Bool, _&&_, _||_, cond, false, not, true}
+use mathlib.Core.Bool.{Bool, _&&_, _||_, cond, false, not, or-assoc, or-false, true}
 use mathlib.Core.List.{List, _∷_}
 use mathlib.Core.Path.{_∙_, _≡_, ap, ap₂, refl, subst, sym}
 use lib.Dec.{eqb, leb}
@@ -163,14 +163,6 @@ module _ (a : Around) (site : Site) (codes : List ℕ) (o : ℕ) (b : Bool) (e :
   level-none t = record { own = λ z. never (sym z ∙ sym e ∙ t); other = λ _. refl }
 
 -- seen_among: what was seen, and what is left tested, are the whole
-or-assoc : (a b c : Bool) → a || (b || c) ≡ (a || b) || c
-or-assoc true b c = refl
-or-assoc false b c = refl
-
-or-false : (a : Bool) → a || false ≡ a
-or-false true = refl
-or-false false = refl
-
 module _ (a : Around) (site : Site) (codes : List ℕ) where
   record Left (p : Kind → ℕ → Bool) (before : Bool) (cs ds : List ℕ) : Type 0 where
     later : (r : Bool) → Tested a site codes p cs r → Tested a site codes p ds (before || r)
@@ -182,7 +174,7 @@ module _ (a : Around) (site : Site) (codes : List ℕ) where
     left-next : (p : Kind → ℕ → Bool) (before : Bool) (l : ℕ) → i < end → LevelFound a site codes (getD xs i 0) l → Left p before (part xs i (end - i)) ds
         → Left p (before || p (kindOf (kindAt (a .facts) (getD xs i 0))) l) (part xs (i + 1) (end - (i + 1))) ds
     left-next p before l h f left =
-        record { later = λ r t. subst (Tested a site codes p ds) (or-assoc before this r) (left .later (this || r) (subst (λ (cs : List ℕ). Tested a site codes p cs (this || r)) (sym (part-turn xs i end h)) (one r t))) }
+        record { later = λ r t. subst (Tested a site codes p ds) (sym (or-assoc before this r)) (left .later (this || r) (subst (λ (cs : List ℕ). Tested a site codes p cs (this || r)) (sym (part-turn xs i end h)) (one r t))) }
       where
         this : Bool
         this = p (kindOf (kindAt (a .facts) (getD xs i 0))) l
