@@ -1,7 +1,7 @@
 // Causes 12, 14 and 21: the levels, with parameters at 0, of what stands for the declarations of the module instanced, by one walk over them.
 ghost use mathlib.Core.Bool.{_&&_, _||_};
 ghost use mathlib.Core.Path.{_≡_};
-ghost use Prim.Native.Nat.{_+_, _-_, _*_, _≤_, _<_};
+ghost use Prim.Native.Nat.{_-_, _≤_};
 ghost use lib.ListN.{length};
 ghost use Rattle.limits.specs.Limits.{maxModules};
 ghost use Rattle.context.proofs.Judging.{kindOf};

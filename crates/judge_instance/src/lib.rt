@@ -4,7 +4,6 @@ pub mod adding;
 pub mod constancy;
 pub mod lawful;
 
-ghost use mathlib.Core.Path.{_≡_};
 ghost use Rattle.context.specs.Store.{store};
 ghost use Rattle.fields.specs.declared.Parts.the-variants.{Instance};
 ghost use Rattle.standing.specs.Standing.{Judging, Underway};
