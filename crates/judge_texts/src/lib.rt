@@ -4,10 +4,9 @@ pub mod formulas;
 
 ghost use mathlib.Core.Path.{_≡_};
 ghost use Prim.Native.Nat.{_≤_};
-ghost use lib.ListN.{length};
 ghost use Rattle.limits.specs.Limits.{maxModules};
 ghost use Rattle.context.specs.Store.{contextCodes};
-ghost use Rattle.levels.specs.Tables.{namesOf, tableWords};
+ghost use Rattle.levels.specs.Tables.{namesOf};
 ghost use Rattle.levels.specs.Walk.{TextForm};
 ghost use Rattle.standing.specs.Standing.{itselves};
 ghost use Rattle.judge_texts.specs.Texts.{Texted, textCause};
@@ -29,7 +28,6 @@ pub struct Text {
 
 // The form of a text of the module that is open: every definition is itself, no instance is around it.
 pub fn own_form(file: &[u8], refs: &[u16], words: &[u64], at: usize) -> u64
-    requires { ⌜ length (now words) ≡ tableWords ⌝ }
     ensures { λ r. ⌜ TextForm (namesOf (now (refs .entry)) itselves (now (words .entry)) 0) (now (file .entry)) at r ⌝ }
 {
     let mut numbers = [0u16; Limits::DEFINITIONS];
@@ -50,7 +48,7 @@ pub fn read_text(
     m: usize,
     params: usize,
 ) -> Text
-    requires { ⌜ (m ≤ maxModules) × (length (now words) ≡ tableWords) ⌝ }
+    requires { ⌜ m ≤ maxModules ⌝ }
     ensures { λ r. ⌜ Texted (now (names .entry)) (now (facts .entry)) (contextCodes (now (contexts .entry)) (now (heads .entry)) m) (now (file .entry)) (now (words .entry)) params at (now (refs .entry)) (now (refs .exit)) r ⌝ }
 {
     let k = look_at(file, names, facts, contexts, heads, refs, at, m, params);
