@@ -12,7 +12,7 @@ use lib.Dec.{leb, ltb}
 use lib.ListN.{getD, length}
 use lib.Seq.{getD-at}
 use Rattle.limits.specs.Limits.{maxArity, maxDefinitions}
-use Rattle.theory.specs.Expand.{Definition as Meaning, own}
+use Rattle.theory.specs.Expand.{Definition as Meaning}
 use Rattle.theory.specs.Lists.{isSome}
 use Rattle.theory.specs.Term.{Term}
 use Rattle.rules.specs.Add.{add, ownOne}
@@ -38,7 +38,7 @@ use Rattle.worlds.specs.Rows.{Row, noRow, rowsAfter}
 use Rattle.worlds.proofs.Steps.{ownRow as ownWorld}
 use Rattle.judge_plain.proofs.Lifted.{order-law}
 use Rattle.judge_plain.proofs.Premises.{no-cause-left}
-use Rattle.judge_plain.specs.Causes.{early, judged, refusal}
+use Rattle.judge_plain.specs.Causes.{early, refusal}
 use Rattle.judge_plain.specs.Judges.{causeNumber}
 use Rattle.judge_plain.specs.declared.Judged.{Judged}
 use Rattle.judge_plain.specs.declared.Phase.{Phase}
