@@ -1,5 +1,4 @@
 // The level that a form gives at given levels, and a definition's card.
-use crate::Form;
 use limits::Limits;
 ghost use mathlib.Core.Path.{_≡_};
 ghost use Prim.Native.Nat.{ℕ, _+_, _^_, _<_, _≤_};
@@ -58,7 +57,8 @@ pub fn level(form: u64, v: &[u8]) -> u8
     level_of(b)
 }
 
-fn power(n: usize) -> usize
+// The entries of a card that are used with n parameters.
+pub fn power(n: usize) -> usize
     requires { ⌜ n ≤ maxArity ⌝ }
     ensures { λ r. ⌜ r ≡ levelCount ^ n ⌝ }
 {

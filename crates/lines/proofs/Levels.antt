@@ -1,8 +1,8 @@
 -- The levels of a card as digits.
 use mathlib.Core.List.{List, [], _∷_, _++_, append-nil, map}
 use mathlib.Core.Path.{_≡_, _∙_, ap, ap₂, refl, subst, sym}
-use Prim.Native.Nat.{ℕ, zero, suc, _+_, _-_, _*_, _^_, _≤_, _<_}
-use native.Mathlib.Nat.{pow-le-pow-right, pow-suc}
+use Prim.Native.Nat.{ℕ, zero, suc, _+_, _-_, _^_, _≤_, _<_}
+use native.Mathlib.Nat.{pow-le-pow-right}
 use native.Mathlib.Numerals.{add-one}
 use native.Mathlib.Omega.{arith}
 use lib.ListN.{drop-of-length-le, getD, length, length-map, replicate, set, take}
@@ -83,11 +83,8 @@ module _ (n : ℕ) (f : ℕ) (card space : List ℕ) (few : n ≤ maxArity) (ful
   card-used size e =
       ap (map digit) (ap (take size) card-is ∙ take-at (usedEntries n (levelAt f)) (replicate (cardBytes - levelCount ^ n) 0) size (used-length n (levelAt f) ∙ sym e))
 
--- "with n parameters 5ⁿ entries are used": one parameter more, five times as many; and never more than a card has
-pub used-turn : (n : ℕ) → levelCount ^ n * levelCount ≡ levelCount ^ (n + 1)
-used-turn n = rw (add-one, pow-suc)
-
-pub used-fits : (n : ℕ) → n ≤ maxArity → levelCount ^ n ≤ cardBytes
+-- "with n parameters 5ⁿ entries are used": never more than a card has
+used-fits : (n : ℕ) → n ≤ maxArity → levelCount ^ n ≤ cardBytes
 used-fits n few = pow-le-pow-right {n = levelCount} (omega arith) {i = n} {j = maxArity} few
 
 -- what putting the levels of a card asks

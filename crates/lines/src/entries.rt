@@ -1,28 +1,15 @@
 // The used entries of a card.
 ghost use mathlib.Core.List.{map};
 ghost use mathlib.Core.Path.{_≡_};
-ghost use Prim.Native.Nat.{ℕ, _+_, _≤_, _^_};
+ghost use Prim.Native.Nat.{ℕ, _+_, _≤_};
 ghost use lib.ListN.{length, getD, take};
-ghost use Rattle.limits.specs.Limits.{cardBytes, levelCount, maxArity};
+ghost use Rattle.limits.specs.Limits.{cardBytes, maxArity};
 ghost use Rattle.forms.specs.Forms.{levelAt};
 ghost use Rattle.lines.specs.Text.{digit, entries};
 ghost use Rattle.lines.specs.Writes.{Writes};
 use forms::card::fill;
+use forms::card::power;
 use limits::Limits;
-
-// "with n parameters 5ⁿ entries are used"
-fn used(n: usize) -> usize
-    requires { ⌜ n ≤ maxArity ⌝ }
-    ensures { λ r. ⌜ r ≡ levelCount ^ n ⌝ }
-{
-    let mut r: usize = 1;
-    let mut i: usize = 0;
-    while i < n {
-        r = r * Limits::LEVELS;
-        i += 1;
-    }
-    r
-}
 
 // The first n levels of a card as digits.
 fn put_levels(card: &[u8], n: usize, out: &mut [u8], at: usize) -> usize
@@ -43,7 +30,7 @@ fn put_card(f: u64, n: usize, card: &mut [u8], out: &mut [u8], at: usize) -> usi
     requires { ⌜ (n ≤ maxArity) × (length (now card) ≡ cardBytes) × (at + cardBytes ≤ length (now out)) ⌝ }
     ensures { λ r. ⌜ Writes (now (out .entry)) (now (out .exit)) at (entries n (levelAt f)) r × (r ≤ at + cardBytes) ⌝ }
 {
-    let size = used(n);
+    let size = power(n);
     fill(f, n, card, 0);
     put_levels(card, size, out, at)
 }
