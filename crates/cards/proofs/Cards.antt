@@ -8,7 +8,7 @@ use native.Mathlib.Numerals.{add-one}
 use native.Mathlib.Omega.{arith}
 use lib.Dec.{ltb}
 use lib.ListN.{drop, getD, getD-replicate, length, length-append, length-replicate, replicate, set}
-use lib.Seq.{drop-append-add, drop-drop, length-paste, paste, paste-suc, paste-zero, take-all, take-at}
+use lib.Seq.{drop-append-add, drop-drop, paste, paste-suc, paste-zero, take-all, take-at}
 use Rattle.limits.specs.Limits.{cardBytes, cardMemoryBytes, maxArity, maxDefinitions}
 use Rattle.limits.specs.Sizes.{columnCount}
 use Rattle.theory.proofs.Cards.{card-length}
@@ -27,9 +27,6 @@ pub clear-start : (n : ℕ) (m : List ℕ) → Cleared n m m 0
 clear-start n m = record { upTo = omega arith; same = paste-zero m 0 (replicate n 0) }
 
 module _ {n : ℕ} {m out : List ℕ} {i : ℕ} (inv : Cleared n m out i) (room : n ≤ length m) where
-  pub clear-length : length out ≡ length m
-  clear-length = ap length (inv .same) ∙ length-paste m 0 (replicate n 0) i (omega (arith, inv .upTo)) (rw (length-replicate {A = ℕ} n 0) (inv .upTo))
-
   pub clear-turn : i < n → Cleared n m (set out i 0) (i + 1)
   clear-turn h =
       let z : 0 + i ≡ i = omega arith in
