@@ -1,10 +1,9 @@
 // The lent card memory: the cards of the definitions, or zeros.
 ghost use mathlib.Core.Path.{_≡_};
-ghost use Prim.Native.Nat.{_+_, _*_, _≤_, _<_};
+ghost use Prim.Native.Nat.{_≤_};
 ghost use lib.ListN.{length, replicate};
 ghost use Rattle.limits.specs.Limits.{cardMemoryBytes, maxArity, maxDefinitions};
 ghost use Rattle.limits.specs.Sizes.{factsLength};
-ghost use Rattle.levels.specs.Tables.{tableWords};
 ghost use Rattle.rules.specs.Run.{overwrite};
 ghost use Rattle.cards.specs.Cards.{cardsOf};
 ghost use mathlib.Core.Bool.{cond};
@@ -36,7 +35,7 @@ fn within(n: u16) -> usize
 
 // The card of each of the first n definitions, from the table of forms.
 pub fn fill_cards(facts: &[u16], words: &[u64], n: usize, cards: &mut [u8])
-    requires { ⌜ (length (now facts) ≡ factsLength) × (length (now words) ≡ tableWords) × (n ≤ maxDefinitions) × (cardMemoryBytes ≤ length (now cards)) ⌝ }
+    requires { ⌜ (length (now facts) ≡ factsLength) × (n ≤ maxDefinitions) × (cardMemoryBytes ≤ length (now cards)) ⌝ }
     ensures { λ r. ⌜ now (cards .exit) ≡ overwrite (cardsOf (now (facts .entry)) (now (words .entry)) n) (now (cards .entry)) ⌝ }
 {
     let mut g: usize = 0;
