@@ -7,7 +7,6 @@ ghost use lib.Dec.{ltb};
 ghost use lib.ListN.{getD, length};
 ghost use Rattle.limits.specs.Limits.{maxArity, maxDefinitions};
 ghost use Rattle.context.specs.Store.{viaAt};
-ghost use Rattle.levels.specs.Tables.{tableWords};
 ghost use Rattle.rules.specs.Run.{overwrite};
 ghost use Rattle.lines.specs.Text.{heading, lineAt, lineRoom, linesOf, number, refusalText, refusedWord, textOf, textRoom};
 ghost use Rattle.lines.specs.Writes.{Writes};
@@ -51,7 +50,7 @@ fn put_line(
     out: &mut [u8],
     at: usize,
 ) -> usize
-    requires { ⌜ (length (now words) ≡ tableWords) × (g < maxDefinitions) × (at + lineRoom ≤ length (now out)) ⌝ }
+    requires { ⌜ (g < maxDefinitions) × (at + lineRoom ≤ length (now out)) ⌝ }
     ensures { λ r. ⌜ Writes (now (out .entry)) (now (out .exit)) at (lineAt (now (names .entry)) (now (facts .entry)) (now (words .entry)) g) r × (r ≤ at + lineRoom) ⌝ }
 {
     let k = within(number_at(facts, Limits::COLUMNS * g));
@@ -82,7 +81,7 @@ fn put_lines(
     out: &mut [u8],
     at: usize,
 ) -> usize
-    requires { ⌜ (length (now words) ≡ tableWords) × (n ≤ maxDefinitions) × (at ≤ 9) × (textRoom ≤ length (now out)) ⌝ }
+    requires { ⌜ (n ≤ maxDefinitions) × (at ≤ 9) × (textRoom ≤ length (now out)) ⌝ }
     ensures { λ r. ⌜ Writes (now (out .entry)) (now (out .exit)) at (linesOf (now (names .entry)) (now (facts .entry)) (now (words .entry)) n) r × (r ≤ textRoom) ⌝ }
 {
     let mut next = at;
@@ -96,7 +95,7 @@ fn put_lines(
 
 // The listing of n definitions at the front of out; every other byte stays.
 pub fn write_listing(names: &[u16], facts: &[u16], words: &[u64], n: usize, out: &mut [u8]) -> usize
-    requires { ⌜ (length (now words) ≡ tableWords) × (n ≤ maxDefinitions) × (textRoom ≤ length (now out)) ⌝ }
+    requires { ⌜ (n ≤ maxDefinitions) × (textRoom ≤ length (now out)) ⌝ }
     ensures { λ r. ⌜ (now (out .exit) ≡ overwrite (textOf (now (names .entry)) (now (facts .entry)) (now (words .entry)) n) (now (out .entry))) × (r ≡ length (textOf (now (names .entry)) (now (facts .entry)) (now (words .entry)) n)) × (r ≤ textRoom) ⌝ }
 {
     let at = put_heading(n, out);

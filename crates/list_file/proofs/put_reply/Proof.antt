@@ -8,7 +8,7 @@ enum-known-reply : tie.Need-enum-known-reply
 enum-known-reply c = search needs
 
 write-listing-requires : tie.Need-write-listing-requires
-write-listing-requires c κs = (search needs, search few-in, search needs)
+write-listing-requires c κs = (search few-in, search needs)
 
 enum-known-reply-2 : tie.Need-enum-known-reply-2
 enum-known-reply-2 c = search needs
