@@ -46,6 +46,8 @@ pub enum Misreading {
     NeighboursOnly,
     /// It takes the instance's parameters at 2.
     ParametersAtTwo,
+    /// It is judged of the names declared so far: a 12 or a 14 declared later is not seen.
+    FirstCome,
 }
 
 /// Where levels meet.
@@ -255,6 +257,10 @@ impl Book {
                 Some(Misreading::ParametersAtTwo) => level(&twos),
                 _ => at_zero,
             }));
+            let so_far = module.constant && rows::mixed(&counted);
+            if so_far && self.reads(Misreading::FirstCome) {
+                break;
+            }
         }
         let mixed = match self.misreading {
             Some(Misreading::NoTwentyOne) => false,

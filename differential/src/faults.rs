@@ -280,6 +280,8 @@ impl<'a> Site<'a> {
         let constants = [c, d, f, action, temporal].map(|name| Field::Constant(name, 0));
         let mut inside = vec![Field::Constant(k, 2)];
         inside.extend(constants);
+        // What has cause 12 or 14 is declared before the 2 and the 3, between them or after them.
+        self.random.shuffle(&mut inside);
         inside.push(Field::Definition(plain, 1, and(p(0), n(d, &[]))));
         inside.push(Field::End);
         self.module(calm, inside);
@@ -608,11 +610,7 @@ impl<'a> Site<'a> {
             let part = self.over_limit();
             with[at].1 = and(with[at].1.clone(), part);
         }
-        // In any order.
-        for at in (1..with.len()).rev() {
-            let other = self.random.below(at + 1);
-            with.swap(at, other);
-        }
+        self.random.shuffle(&mut with);
         Field::Instance {
             name,
             parameters: own,

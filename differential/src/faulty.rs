@@ -89,7 +89,7 @@ pub enum Fault {
 }
 
 /// Every fault with its name.
-pub const FAULTS: [(&str, Fault); 59] = [
+pub const FAULTS: [(&str, Fault); 60] = [
     ("place-next", Fault::PlaceNext),
     ("place-of-open-file", Fault::PlaceOfOpenFile),
     ("place-of-eighteen", Fault::PlaceOfEighteen),
@@ -164,6 +164,7 @@ pub const FAULTS: [(&str, Fault); 59] = [
         "21-over-parameters",
         Fault::Misread(Misreading::ParametersAtTwo),
     ),
+    ("21-first-come", Fault::Misread(Misreading::FirstCome)),
 ];
 
 impl Fault {

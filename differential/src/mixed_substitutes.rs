@@ -238,10 +238,7 @@ pub fn build(number: usize, random: &mut Random) -> Substituted {
             _ => with.push((name, lit(name))),
         }
     }
-    for at in (1..with.len()).rev() {
-        let other = random.below(at + 1);
-        with.swap(at, other);
-    }
+    random.shuffle(&mut with);
     let (name, own) = match random.below(3) {
         _ if parameter => (50, 1),
         0 => (0, 0),
