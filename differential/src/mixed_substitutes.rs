@@ -179,11 +179,12 @@ pub fn build(number: usize, random: &mut Random) -> Substituted {
     let state = random.pick(&[x(), and(x(), lit(0))]);
     let action = random.pick(&[prime(x()), prime(lit(0)), and(x(), prime(x()))]);
     let temporal = random.pick(&[always(x()), always(lit(0)), and(x(), always(x()))]);
-    // Which of the two names takes which.
-    let mut ends = [LEFT, RIGHT];
-    if random.chance(50) {
-        ends.reverse();
-    }
+    // Half of the combinations have the 3 declared first, whatever the seed: the stored ones too.
+    let turned = (module_number + way) % 2 == 1;
+    let ends = match turned {
+        true => [RIGHT, LEFT],
+        false => [LEFT, RIGHT],
+    };
     let [first, second] = ends;
     let define = |name: u16, body: &Expr| Field::Definition(name, 0, body.clone());
     let both = [define(first, &action), define(second, &temporal)];
