@@ -11,6 +11,8 @@ use std::rc::Rc;
 /// Most parameters of a written substitute, the instance's and the operator's.
 const SLOTS: usize = 6;
 
+const ENABLED: u8 = 113;
+
 /// A wrong reading of request L5.
 #[derive(Clone, Copy, Debug, PartialEq, Eq)]
 pub enum Misreading {
@@ -24,6 +26,8 @@ pub enum Misreading {
     NotInDeclared,
     /// Nothing mixes in a binder over a set.
     NotInBinders,
+    /// What stands below ENABLED mixes with what stands beside it.
+    ThroughEnabled,
     /// A card has one ceiling for each parameter: an entry is the highest of what each gives alone.
     OneCeiling,
     /// A level query takes 3 for the highest of a 2 and a 3.
@@ -46,8 +50,12 @@ pub enum Misreading {
     NeighboursOnly,
     /// It takes the instance's parameters at 2.
     ParametersAtTwo,
+    /// It takes the arguments of an operator's substitute at 3.
+    ArgumentsAtThree,
     /// It is judged of the names declared so far: a 12 or a 14 declared later is not seen.
     FirstCome,
+    /// What earlier INSTANCEs of the same module put in counts for it too.
+    EveryInstance,
 }
 
 /// Where levels meet.
@@ -67,12 +75,22 @@ struct Text {
 
 /// An INSTANCE that was read.
 struct Instance {
+    /// How many modules had ended, and the module that it is of.
+    place: (usize, u16),
     scope: Rc<Scope>,
     parameters: usize,
     with: Vec<(u16, Expr)>,
     /// The numbers of what it brings in its module, and of the first of them here.
     order: Vec<usize>,
     start: usize,
+}
+
+impl Instance {
+    /// The expression written for a declared name, if it does not stand for itself.
+    fn written(&self, declared: &Operator) -> Option<&Expr> {
+        let mut found = self.with.iter().filter(|(name, _)| *name == declared.name);
+        found.next().map(|(_, expr)| expr)
+    }
 }
 
 /// An accepted file.
@@ -207,6 +225,7 @@ impl Book {
 
     /// Takes in an INSTANCE and the texts that it brings.
     fn bring(&mut self, scope: &Rc<Scope>, parameters: u8, module: u16, with: &[(u16, Expr)]) {
+        let place = (self.model.modules.len(), module);
         let module = self.model.module(module).expect("ended earlier");
         let order = module.scope.order.clone();
         for &number in &order {
@@ -215,6 +234,7 @@ impl Book {
             self.texts.push(text);
         }
         self.instances.push(Instance {
+            place,
             scope: scope.clone(),
             parameters: parameters.into(),
             with: with.to_vec(),
@@ -227,19 +247,22 @@ impl Book {
     fn substitutes(&self, module: &Module) -> Vec<u32> {
         let last = self.instances.last().expect("an INSTANCE");
         let zeros = [0; SLOTS];
-        let mut twos = zeros;
-        twos[..last.parameters].fill(2);
+        let mut counted_at = zeros;
+        match self.misreading {
+            Some(Misreading::ParametersAtTwo) => counted_at[..last.parameters].fill(2),
+            Some(Misreading::ArgumentsAtThree) => counted_at[last.parameters..].fill(3),
+            _ => (),
+        }
         let (mut holds, mut counted) = (Vec::new(), Vec::new());
+        if self.reads(Misreading::EveryInstance) {
+            let same = |by: &&Instance| by.place == last.place;
+            for by in self.instances.iter().filter(same) {
+                let declared = module.scope.declared.iter();
+                counted.extend(declared.map(|declared| self.substitute(by, declared, &zeros)));
+            }
+        }
         for declared in &module.scope.declared {
-            let written = last.with.iter().find(|(name, _)| *name == declared.name);
-            let level = |levels: &[u8]| match written {
-                Some((_, expr)) => self.level(expr, &last.scope, &[], levels, &mut Vec::new()),
-                None => {
-                    let same = last.scope.operator(declared.name).expect("known");
-                    self.apply(same, &[], &[], &levels[SLOTS - same.count as usize..])
-                }
-            };
-            let at_zero = level(&zeros);
+            let at_zero = self.substitute(last, declared, &zeros);
             let most = match declared.meaning {
                 _ if declared.count > 0 => 0,
                 _ if module.constant => 3,
@@ -249,14 +272,11 @@ impl Book {
             holds.extend((at_zero == 4).then_some(12));
             holds.extend((at_zero > most).then_some(14));
             let seen = match self.misreading {
-                Some(Misreading::WrittenOnly) => written.is_some(),
+                Some(Misreading::WrittenOnly) => last.written(declared).is_some(),
                 Some(Misreading::UsedOnly) => self.uses(module, declared),
                 _ => true,
             };
-            counted.extend(seen.then(|| match self.misreading {
-                Some(Misreading::ParametersAtTwo) => level(&twos),
-                _ => at_zero,
-            }));
+            counted.extend(seen.then(|| self.substitute(last, declared, &counted_at)));
             let so_far = module.constant && rows::mixed(&counted);
             if so_far && self.reads(Misreading::FirstCome) {
                 break;
@@ -270,6 +290,19 @@ impl Book {
         let any = module.constant || self.reads(Misreading::AnyModule);
         holds.extend((mixed && any).then_some(21));
         holds
+    }
+
+    /// The level of what an INSTANCE puts in for a declared name, over these levels of the instance's
+    /// parameters and then of the name's own arguments.
+    fn substitute(&self, by: &Instance, declared: &Operator, levels: &[u8; SLOTS]) -> u8 {
+        match by.written(declared) {
+            Some(expr) => self.level(expr, &by.scope, &[], levels, &mut Vec::new()),
+            None => {
+                let same = by.scope.operator(declared.name).expect("known");
+                let own = &levels[by.parameters..][..same.count as usize];
+                self.apply(same, &[], &[], own)
+            }
+        }
     }
 
     /// Whether a definition of the module uses a name that it declares.
@@ -313,12 +346,14 @@ impl Book {
     }
 
     /// The level of a query's expression at the end of a module, whose names and counts are right.
-    pub fn query(&mut self, module: u16, expr: &Expr, levels: &[u8]) -> u8 {
-        if self.reads(Misreading::NotInQueries) {
-            self.misreading = Some(Misreading::NoMixing);
-        }
-        let scope = &self.model.module(module).expect("a module").scope;
-        self.level(expr, scope, &[], levels, &mut Vec::new())
+    pub fn query(self, module: u16, expr: &Expr, levels: &[u8]) -> u8 {
+        let misreading = match self.misreading {
+            Some(Misreading::NotInQueries) => Some(Misreading::NoMixing),
+            other => other,
+        };
+        let book = Book { misreading, ..self };
+        let scope = &book.model.module(module).expect("a module").scope;
+        book.level(expr, scope, &[], levels, &mut Vec::new())
     }
 
     /// Parameters of the instances that brought a text.
@@ -342,11 +377,16 @@ impl Book {
             Expr::Literal(_) => return 0,
             Expr::BuiltIn(code, arguments) => {
                 let row = rows::row(*code).expect("a code");
-                let mut given = Vec::new();
+                let (mut given, mut below) = (Vec::new(), Vec::new());
                 for (at, argument) in arguments.iter().enumerate() {
                     let binds = row.binds_in(at);
                     binders.extend(binds);
                     given.push(self.level(argument, scope, chain, levels, binders));
+                    if self.reads(Misreading::ThroughEnabled) {
+                        if let Expr::BuiltIn(ENABLED, action) = argument {
+                            below.push(self.level(&action[0], scope, chain, levels, binders));
+                        }
+                    }
                     if binds.is_some() {
                         binders.pop();
                     }
@@ -355,6 +395,7 @@ impl Book {
                 return match row.gives {
                     _ if !taken.all(|(level, takes)| takes >> level & 1 == 1) => 4,
                     Some(level) => level,
+                    None if below.contains(&2) && given.contains(&3) => 4,
                     None => self.highest(Meeting::BuiltIn(*code), &given),
                 };
             }
@@ -385,11 +426,11 @@ impl Book {
             (Meaning::Variable(_), None) => 1,
             (Meaning::Constant(_), None) => self.highest(Meeting::Declared, given),
             (_, Some((&by, outer))) => {
-                let Instance { scope, with, .. } = &self.instances[by];
-                match with.iter().find(|(name, _)| *name == operator.name) {
-                    Some((_, expr)) => self.level(expr, scope, outer, &all, &mut Vec::new()),
+                let by = &self.instances[by];
+                match by.written(operator) {
+                    Some(expr) => self.level(expr, &by.scope, outer, &all, &mut Vec::new()),
                     None => {
-                        let same = scope.operator(operator.name).expect("known");
+                        let same = by.scope.operator(operator.name).expect("known");
                         self.apply(same, outer, levels, given)
                     }
                 }

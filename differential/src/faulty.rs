@@ -89,7 +89,7 @@ pub enum Fault {
 }
 
 /// Every fault with its name.
-pub const FAULTS: [(&str, Fault); 60] = [
+pub const FAULTS: [(&str, Fault); 63] = [
     ("place-next", Fault::PlaceNext),
     ("place-of-open-file", Fault::PlaceOfOpenFile),
     ("place-of-eighteen", Fault::PlaceOfEighteen),
@@ -144,6 +144,10 @@ pub const FAULTS: [(&str, Fault); 60] = [
         "no-mixing-in-binders",
         Fault::Misread(Misreading::NotInBinders),
     ),
+    (
+        "mixing-through-enabled",
+        Fault::Misread(Misreading::ThroughEnabled),
+    ),
     ("one-ceiling", Fault::Misread(Misreading::OneCeiling)),
     (
         "no-mixing-in-queries",
@@ -164,7 +168,15 @@ pub const FAULTS: [(&str, Fault); 60] = [
         "21-over-parameters",
         Fault::Misread(Misreading::ParametersAtTwo),
     ),
+    (
+        "21-over-arguments",
+        Fault::Misread(Misreading::ArgumentsAtThree),
+    ),
     ("21-first-come", Fault::Misread(Misreading::FirstCome)),
+    (
+        "21-of-every-instance",
+        Fault::Misread(Misreading::EveryInstance),
+    ),
 ];
 
 impl Fault {
@@ -398,7 +410,7 @@ impl Queries for Faulty {
             let asked = Reference.level(&plain, &mut scratch, module, expr, levels);
             return match (misread, Expr::read(expr)) {
                 (Err(reply), _) => reply,
-                (Ok(mut book), Some(expr)) if refusal(asked).is_none() => {
+                (Ok(book), Some(expr)) if refusal(asked).is_none() => {
                     book.query(module, &expr, levels).into()
                 }
                 _ => asked,

@@ -5,7 +5,8 @@ use crate::random::Random;
 use crate::syntax::{self, always, and, instance, lit, n, p, prime, wrap, Expr, Field};
 
 /// Modules to instance, and whether they are constant.
-const MODULES: [(&str, bool); 12] = [
+const MODULES: [(&str, bool); 13] = [
+    (OPERATOR_TOO, true),
     ("no definition", true),
     ("a definition over neither", true),
     ("a definition over one", true),
@@ -20,14 +21,18 @@ const MODULES: [(&str, bool); 12] = [
     ("a brought definition at 2", false),
 ];
 
+/// Its definition is over an operator that it declares beside the two names.
+const OPERATOR_TOO: &str = "an operator";
+
 /// Where the two substitutes come from.
-const WAYS: [&str; 12] = [
+const WAYS: [&str; 13] = [
     "both written",
     "both themselves",
     "2 written",
     "3 written",
     "both extended",
     "both brought",
+    "2 in one INSTANCE, 3 in another",
     "1 and 2",
     "1 and 3",
     "2 and 2",
@@ -36,7 +41,7 @@ const WAYS: [&str; 12] = [
     "parameter and 3",
 ];
 
-/// Those of the ways that mix.
+/// Those of the ways that mix; after them comes at once what only looks like it.
 const MIXED: usize = 6;
 
 /// An instance with two substitutes to look at.
@@ -80,6 +85,7 @@ pub fn labels() -> Vec<String> {
 // Names that the instanced module declares; more constants stand between the two.
 const LEFT: u16 = 1;
 const RIGHT: u16 = 9;
+const OPERATOR: u16 = 10;
 const X: u16 = 20;
 const U: u16 = 21;
 const D: u16 = 22;
@@ -106,6 +112,10 @@ fn instanced(kind: &str, names: &[u16]) -> Vec<Field> {
     let extends = Field::Extends(vec![INNER]);
     let mut fields = Vec::new();
     match kind {
+        OPERATOR_TOO => {
+            inside.insert(1, Field::Constant(OPERATOR, 1));
+            inside.push(Field::Definition(D, 0, n(OPERATOR, &[left()])));
+        }
         "no definition" => (),
         "a definition over neither" => inside.push(Field::Definition(D, 0, lit(5))),
         "a definition over one" => inside.push(Field::Definition(D, 0, left())),
@@ -190,6 +200,8 @@ pub fn build(number: usize, random: &mut Random) -> Substituted {
     let both = [define(first, &action), define(second, &temporal)];
     let mut inside = vec![Field::Variable(X), Field::Variable(U)];
     let mut with: Vec<(u16, Expr)> = Vec::new();
+    // What both names stand for in a second INSTANCE.
+    let mut elsewhere = None;
     let mut parameter = false;
     match WAYS[way] {
         "both written" => with.extend([(first, action), (second, temporal)]),
@@ -211,6 +223,14 @@ pub fn build(number: usize, random: &mut Random) -> Substituted {
             let own = [vec![Field::Variable(X)], both.to_vec()].concat();
             fields.extend(module(OUTER, &own));
             inside.push(instance(0, 0, OUTER, &[]));
+        }
+        "2 in one INSTANCE, 3 in another" => {
+            let (here, there) = match turned {
+                true => (temporal, action),
+                false => (action, temporal),
+            };
+            with.extend(ends.map(|name| (name, here.clone())));
+            elsewhere = Some(there);
         }
         "1 and 2" => with.extend([(first, state), (second, action)]),
         "1 and 3" => with.extend([(first, state), (second, temporal)]),
@@ -239,13 +259,26 @@ pub fn build(number: usize, random: &mut Random) -> Substituted {
             _ => with.push((name, lit(name))),
         }
     }
-    random.shuffle(&mut with);
     let (name, own) = match random.below(3) {
         _ if parameter => (50, 1),
         0 => (0, 0),
         other => (50, other as u8 - 1),
     };
+    if kind == OPERATOR_TOO {
+        // At the level of its argument, which counts as 0 like the instance's parameters.
+        match random.below(3) {
+            0 => inside.push(Field::Constant(OPERATOR, 1)),
+            1 => inside.push(Field::Definition(OPERATOR, 1, p(0))),
+            _ => with.push((OPERATOR, wrap(2, p(own)))),
+        }
+    }
+    random.shuffle(&mut with);
     inside.push(instance(name, own, INSTANCED, &with));
+    if let Some(there) = elsewhere {
+        let of_both = with.iter_mut().filter(|(name, _)| ends.contains(name));
+        of_both.for_each(|(_, expr)| *expr = there.clone());
+        inside.push(instance(51, own, INSTANCED, &with));
+    }
     fields.extend(module(LAST, &inside));
     let cause = match constant {
         false => Some(14),

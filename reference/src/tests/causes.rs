@@ -739,6 +739,38 @@ fn cause_21() {
 }
 
 #[test]
+fn cause_21_of_each_instance_by_itself() {
+    let x = || n(50, &[]);
+    let both = |name: u16, of: Bytes| instance(name, 0, 1, &[(10, of.clone()), (11, of)]);
+    let file = |first: Bytes, second: Bytes| {
+        vec![
+            module(1),
+            constant(10, 0),
+            constant(11, 0),
+            def(20, 0, and(n(10, &[]), n(11, &[]))),
+            end(),
+            module(2),
+            variable(50),
+            first,
+            second,
+            end(),
+        ]
+    };
+    // What one INSTANCE puts in does not meet what another one does.
+    let (actions, formulas) = (
+        |name: u16| both(name, prime(x())),
+        |name: u16| both(name, always(x())),
+    );
+    accept(vec![
+        (file(actions(8), formulas(9)), 3),
+        (file(formulas(8), actions(9)), 3),
+        (file(actions(0), formulas(9)), 3),
+    ]);
+    let mixed = instance(9, 0, 1, &[(10, prime(x())), (11, always(x()))]);
+    expect(vec![(file(actions(8), mixed), 21, 8)]);
+}
+
+#[test]
 fn cause_21_in_its_order() {
     let x = || n(50, &[]);
     let both = |k: Bytes| vec![(10, prime(x())), (11, always(x())), (12, k)];
