@@ -87,6 +87,9 @@ fn refusals() {
         ("trial-box-action", "refused 12 3\n", "Bad =="),
         ("trial-hidden-prime", "refused 12 3\n", "Bad =="),
         ("trial-g-at-2-0", "refused 12 4\n", "Bad =="),
+        ("trial-g-at-2-3", "refused 12 4\n", "Bad =="),
+        ("mixed-formula", "refused 12 5\n", "Spec =="),
+        ("mixed-instance", "refused 21 13\n", "Sheet == INSTANCE"),
     ] {
         assert_eq!(text(&format!("{stem}.listing")), refusal);
         let written = text(&format!("{stem}.tla"));
