@@ -455,8 +455,6 @@ impl Judge {
         }
         self.forms.forget_substitutes();
         let wrong = self.cards[start..].iter().any(|card| card[0] == 4);
-        // Causes 14 and 21 leave nothing for cause 15: a second opinion, in debug builds.
-        debug_assert!(!wrong, "a lawful instance brings what is level-correct");
         refuse_if(wrong, Cause::BroughtLevel)?;
         let named_inside = self.tables.modules[module].has_instance;
         refuse_if(named_inside && !self.lenient, Cause::NamedInstance)?;
