@@ -43,8 +43,8 @@ uint32_t rafterclary_check(const uint8_t *file, size_t file_length, uint8_t *car
 
 /* The level of an expression at the end of a module, 0 to 4 (4: not level-correct), with the
  * parameters at the levels given, one byte each. A transition (2) beside a temporal formula (3) is
- * not level-correct. An expression may have any length. The place of
- * a refusal of the expression or the levels is the number of the file's fields. */
+ * not level-correct. An expression may have any length. The place of a refusal of the expression
+ * or the levels is the number of the file's fields. */
 uint32_t rafterclary_level(const uint8_t *file, size_t file_length, uint8_t *cards,
                            size_t cards_length, uint16_t module, const uint8_t *expression,
                            size_t expression_length, const uint8_t *levels, size_t levels_length);

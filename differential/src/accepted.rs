@@ -456,7 +456,7 @@ impl<'a> Grower<'a> {
             }
             17..=27 if !self.calm => Field::Variable(self.declared_name()),
             28..=32 if !self.calm => self.delicate(),
-            33 | 34 if !self.calm => self.demand(),
+            33 | 34 if !self.calm => self.masked(),
             35 => self.binding(),
             36..=40 if !self.model.modules.is_empty() => self.stand_in(),
             41..=58 => self.definition(),
@@ -523,7 +523,7 @@ impl<'a> Grower<'a> {
     }
 
     /// A definition that takes its parameters at some levels only, or not together.
-    fn demand(&mut self) -> Field {
+    fn masked(&mut self) -> Field {
         let parameters = self.random.pick(&[2, 2, 3]);
         let index = |random: &mut Random| syntax::p(random.below(parameters as usize) as u8);
         let mut inner = syntax::and(syntax::p(0), index(self.random));

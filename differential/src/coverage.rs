@@ -230,7 +230,9 @@ impl Coverage {
             .map(|(section, what)| format!("{section:?}: {what}"))
             .collect();
         if self.get(Section::Cause, &UNSEEN.to_string()) > 0 {
-            missing.push(format!("Cause: a file without {UNSEEN}"));
+            missing.push(format!(
+                "Cause: {UNSEEN} occurred, and no file is known to show it"
+            ));
         }
         missing
     }
@@ -400,13 +402,16 @@ impl Coverage {
     fn card(&mut self, model: &Model, number: usize) {
         let card = model.card(number);
         self.construct(&format!("definition at {}", card[0].min(3)));
-        // What the first two parameters give at 2 and 3: 4 though each alone is taken, or not.
+        if model.definitions[number].parameters < 2 {
+            return;
+        }
+        // What the first two parameters give at 2 and 3: 4 though each alone is taken; or 3, the second's
+        // own, though the first is not dropped.
         let (action, temporal, both) = (card[2], card[5 * 3], card[2 + 5 * 3]);
-        if model.definitions[number].parameters > 1 && action < 4 && temporal < 4 {
-            self.construct(match both {
-                4 => "card that mixes at (2, 3)",
-                _ => "card that takes (2, 3)",
-            });
+        match (action, temporal, both) {
+            (..=3, ..=3, 4) => self.construct("card that mixes at (2, 3)"),
+            (_, 3, 3) if card[4] == 4 => self.construct("card that takes (2, 3)"),
+            _ => (),
         }
     }
 

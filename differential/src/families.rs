@@ -182,7 +182,7 @@ pub fn realistic(size: usize) -> Vec<u8> {
     file
 }
 
-fn demands(index: usize) -> Expr {
+fn masked(index: usize) -> Expr {
     // [] of a set of parameters, or of ENABLED of them: neither takes every level.
     let set = index % 8;
     let inner = (0..3)
@@ -282,7 +282,7 @@ pub fn checks() -> Vec<Family> {
             &|_| n(1, &[p(0), p(1), p(2)]),
             false,
         ),
-        instances_of_a_large_body("a: 255 instances, demands", &demands, false),
+        instances_of_a_large_body("a: 255 instances, masks", &masked, false),
     ];
     // b
     all.push(family(
@@ -313,24 +313,21 @@ pub fn checks() -> Vec<Family> {
         Call::Check,
     ));
     // d
-    let body = tree_of(30_000, &demands);
+    let body = tree_of(30_000, &masked);
     let fields = [Field::Module(1), Field::Definition(1, 3, body), Field::End];
     all.push(family(
-        "d: a body full of demands",
+        "d: a body full of masks",
         &syntax::file(&fields),
         Call::Check,
     ));
-    let mut fields = vec![
-        Field::Module(1),
-        Field::Definition(1, 3, tree(16, &demands)),
-    ];
+    let mut fields = vec![Field::Module(1), Field::Definition(1, 3, tree(16, &masked))];
     for d in 2..=100 {
         let call = |_: usize| n(d - 1, &[p(0), p(1), p(2)]);
         fields.push(Field::Definition(d, 3, tree(25, &call)));
     }
     fields.push(Field::End);
     all.push(family(
-        "d: calls full of demands",
+        "d: calls full of masks",
         &syntax::file(&fields),
         Call::Check,
     ));
@@ -369,7 +366,7 @@ pub fn checks() -> Vec<Family> {
     all.push(family("g: 10,000 names looked up", &file, level(2, names)));
     all.push(instances_of_a_large_body(
         "h: refused 16 after all else",
-        &|i| demands(i),
+        &|i| masked(i),
         true,
     ));
     all

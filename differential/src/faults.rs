@@ -79,8 +79,9 @@ pub fn plans() -> Vec<Plan> {
         for (at, &first) in causes.iter().enumerate() {
             plans.push(Plan::Single(kind, first));
             for &second in &causes[at + 1..] {
-                // An ASSUME at level 4 is not also at 1, 2 or 3.
-                if (first, second) != (12, 13) {
+                // An ASSUME at level 4 is not also at 1, 2 or 3, and a module that is not there is not
+                // constant.
+                if !matches!((first, second), (12, 13) | (7, 21)) {
                     plans.push(Plan::OneField(kind, first, second));
                 }
             }

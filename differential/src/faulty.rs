@@ -2,8 +2,7 @@
 
 use crate::book::{self, Book, Misreading};
 use crate::checker::{
-    self, body_refusal, refusal, refused, Checker, Expansions, Queries, Reference, BODY_REFUSED,
-    REFUSED,
+    body_refusal, refusal, refused, Checker, Expansions, Queries, Reference, BODY_REFUSED, REFUSED,
 };
 use crate::syntax::Expr;
 
@@ -185,8 +184,8 @@ impl Fault {
         found.next().map(|&(_, fault)| fault)
     }
 
-    /// The fewest bytes that some file takes to show the fault are below this.
-    pub fn bytes(self) -> usize {
+    /// A file that shows the fault can be made smaller than this.
+    pub fn most_bytes(self) -> usize {
         match self {
             Fault::LargestRefused | Fault::DefinitionLimit => usize::MAX,
             // An INSTANCE of a module that declares two names or three.
@@ -470,11 +469,11 @@ impl Queries for Faulty {
 
     fn body(&self, file: &[u8], cards: &mut [u8], d: u32) -> u64 {
         if let Some(misread) = self.misread(file, cards) {
-            let refused = |reply: u32| BODY_REFUSED + u64::from(reply & !REFUSED);
+            let told = |reply: u32| BODY_REFUSED + u64::from(reply & !REFUSED);
             return match misread.map(|book| book.model.body(file, d)) {
                 Ok(Some((start, length))) => 65_536 * start as u64 + length as u64,
-                Ok(None) => refused(checker::refused(17, 0)),
-                Err(reply) => refused(reply),
+                Ok(None) => told(refused(17, 0)),
+                Err(reply) => told(reply),
             };
         }
         let before = cards.to_vec();

@@ -34,18 +34,18 @@ pub fn all(large: bool) -> Vec<Family> {
     all
 }
 
-/// A variable, 1; a definition that drops its first parameter, 2; one with as many demands on its
+/// A variable, 1; a definition that drops its first parameter, 2; one with as many masks over its
 /// parameters as there are, 3; a definition that is its parameter, 4.
 fn plain() -> Vec<u8> {
     let pairs = [[0, 1], [0, 2], [1, 2]].map(|[i, j]| and(p(i), p(j)));
     let three = and(p(0), and(p(1), p(2)));
-    let demanded = [p(0), p(1), p(2)].into_iter().chain(pairs).chain([three]);
-    let demands = demanded.map(always).reduce(and).expect("there are some");
+    let inside = [p(0), p(1), p(2)].into_iter().chain(pairs).chain([three]);
+    let masked = inside.map(always).reduce(and).expect("there are some");
     syntax::file(&[
         Field::Module(1),
         Field::Variable(1),
         Field::Definition(2, 2, p(1)),
-        Field::Definition(3, 3, demands),
+        Field::Definition(3, 3, masked),
         Field::Definition(4, 1, p(0)),
         Field::End,
     ])
@@ -142,9 +142,9 @@ fn of_length(bytes: usize, size: &str) -> Vec<Family> {
 
     let calls = wide(bytes, &n(3, &[p(0), p(1), p(2)]));
     let levels = over_parameters(1, calls.clone(), &[0, 1, 3]);
-    add(&file, "of calls with demands", levels);
+    add(&file, "of calls with masks", levels);
     let call = expand_over(1, dropped(calls), 3);
-    add(&file, "of calls with demands, dropped", call);
+    add(&file, "of calls with masks, dropped", call);
 
     let passed = (0..8).fold(p(0), |inner, _| n(4, &[inner]));
     let call = expand_over(1, wide(bytes, &passed), 1);

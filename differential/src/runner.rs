@@ -161,7 +161,7 @@ fn size(random: &mut Random) -> (usize, usize) {
 }
 
 /// Files of one turn.
-const TURN: u64 = 25;
+const TURN: u64 = 26;
 
 /// The file of this number in a run. Numbers take turns through all the kinds of files.
 pub fn generate(seed: u64, number: u64) -> Generated {
@@ -262,8 +262,8 @@ pub fn generate(seed: u64, number: u64) -> Generated {
                 calls: mixed.calls,
             }
         }
-        23 | 24 => {
-            let number = 2 * turn + slot as usize - 23;
+        23..=25 => {
+            let number = 3 * turn + slot as usize - 23;
             let number = number % mixed_substitutes::count();
             let mixed = mixed_substitutes::build(number, random);
             let meant = mixed.cause.map(|cause| Meant { cause, place: None });

@@ -6,6 +6,7 @@ use differential::runner::{run, Options};
 
 /// Files within which a fault has to be found.
 const FILES: u64 = 1_000;
+
 #[test]
 fn every_fault_is_found_and_shrunk() {
     let mut wrong = Vec::new();
@@ -27,7 +28,7 @@ fn every_fault_is_found_and_shrunk() {
             found.shrunk.call,
             found.shrunk_what
         );
-        if size >= fault.bytes() {
+        if size >= fault.most_bytes() {
             wrong.push(format!("{name}: shrunk to {size} bytes only\n{found}"));
         }
         if size > found.case.file.len() {
