@@ -1,12 +1,13 @@
 //! Instances with a 2 and a 3 among their substitutes, and their lawful neighbours: cause 21 where the
-//! module is constant, cause 14 where it is not.
+//! module is constant, cause 14 where it is not or where an operator's substitute is not at 0.
 
 use crate::random::Random;
 use crate::syntax::{self, always, and, instance, lit, n, p, prime, wrap, Expr, Field};
 
-/// Modules to instance, and whether they are constant.
-const MODULES: [(&str, bool); 13] = [
-    (OPERATOR_TOO, true),
+/// Modules to instance, and whether nothing but the two decides: else cause 14 holds of all their instances.
+const MODULES: [(&str, bool); 14] = [
+    (OPERATOR_BETWEEN, true),
+    (OPERATOR_AFTER, false),
     ("no definition", true),
     ("a definition over neither", true),
     ("a definition over one", true),
@@ -21,8 +22,10 @@ const MODULES: [(&str, bool); 13] = [
     ("a brought definition at 2", false),
 ];
 
-/// Its definition is over an operator that it declares beside the two names.
-const OPERATOR_TOO: &str = "an operator";
+/// An operator is declared between the two names, and the module's definition is over it.
+const OPERATOR_BETWEEN: &str = "an operator between";
+/// An operator is declared after the two names, and what stands for it is not at 0.
+const OPERATOR_AFTER: &str = "an operator at 1 after";
 
 /// Where the two substitutes come from.
 const WAYS: [&str; 13] = [
@@ -33,15 +36,15 @@ const WAYS: [&str; 13] = [
     "both extended",
     "both brought",
     "2 in one INSTANCE, 3 in another",
+    "parameter and 3",
+    "parameter and 2",
     "1 and 2",
     "1 and 3",
     "2 and 2",
     "3 and 3",
-    "parameter and 2",
-    "parameter and 3",
 ];
 
-/// Those of the ways that mix; after them comes at once what only looks like it.
+/// Those of the ways that mix; what looks most like them comes at once after them.
 const MIXED: usize = 6;
 
 /// An instance with two substitutes to look at.
@@ -112,10 +115,11 @@ fn instanced(kind: &str, names: &[u16]) -> Vec<Field> {
     let extends = Field::Extends(vec![INNER]);
     let mut fields = Vec::new();
     match kind {
-        OPERATOR_TOO => {
+        OPERATOR_BETWEEN => {
             inside.insert(1, Field::Constant(OPERATOR, 1));
             inside.push(Field::Definition(D, 0, n(OPERATOR, &[left()])));
         }
+        OPERATOR_AFTER => inside.push(Field::Constant(OPERATOR, 1)),
         "no definition" => (),
         "a definition over neither" => inside.push(Field::Definition(D, 0, lit(5))),
         "a definition over one" => inside.push(Field::Definition(D, 0, left())),
@@ -177,7 +181,7 @@ pub fn build(number: usize, random: &mut Random) -> Substituted {
     if way == WAYS.len() {
         return many(MANY[module_number]);
     }
-    let (kind, constant) = MODULES[module_number];
+    let (kind, of_the_two) = MODULES[module_number];
     let x = || n(X, &[]);
     let between = random.below(4) as u16;
     let names: Vec<u16> = [LEFT]
@@ -255,7 +259,7 @@ pub fn build(number: usize, random: &mut Random) -> Substituted {
     for name in 2..2 + between {
         match random.below(3) {
             0 => inside.push(Field::Constant(name, 0)),
-            1 if constant => with.push((name, x())),
+            1 if of_the_two => with.push((name, x())),
             _ => with.push((name, lit(name))),
         }
     }
@@ -264,13 +268,14 @@ pub fn build(number: usize, random: &mut Random) -> Substituted {
         0 => (0, 0),
         other => (50, other as u8 - 1),
     };
-    if kind == OPERATOR_TOO {
+    match (kind, random.below(3)) {
         // At the level of its argument, which counts as 0 like the instance's parameters.
-        match random.below(3) {
-            0 => inside.push(Field::Constant(OPERATOR, 1)),
-            1 => inside.push(Field::Definition(OPERATOR, 1, p(0))),
-            _ => with.push((OPERATOR, wrap(2, p(own)))),
-        }
+        (OPERATOR_BETWEEN, 0) => inside.push(Field::Constant(OPERATOR, 1)),
+        (OPERATOR_BETWEEN, 1) => inside.push(Field::Definition(OPERATOR, 1, p(0))),
+        (OPERATOR_BETWEEN, _) => with.push((OPERATOR, wrap(2, p(own)))),
+        (OPERATOR_AFTER, 0) => inside.push(Field::Definition(OPERATOR, 1, x())),
+        (OPERATOR_AFTER, _) => with.push((OPERATOR, and(p(own), x()))),
+        _ => (),
     }
     random.shuffle(&mut with);
     inside.push(instance(name, own, INSTANCED, &with));
@@ -280,7 +285,7 @@ pub fn build(number: usize, random: &mut Random) -> Substituted {
         inside.push(instance(51, own, INSTANCED, &with));
     }
     fields.extend(module(LAST, &inside));
-    let cause = match constant {
+    let cause = match of_the_two {
         false => Some(14),
         true => (way < MIXED).then_some(21),
     };
