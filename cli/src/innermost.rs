@@ -132,17 +132,19 @@ impl Place {
         Some(pair.map(|at| self.of_junction(&arguments[at])))
     }
 
-    /// Of a conjunction or disjunction the first part that has its level.
+    /// Of a conjunction the part that has its level, if only one has: what is left is a state, and
+    /// may stand beside either. Of two, or of a disjunction, a part alone says something else.
     fn of_junction(&self, whole: &Part) -> Part {
         let mut here = whole.clone();
-        while matches!(here.head(), Token::BuiltIn(codes::AND | codes::OR)) {
+        while here.head() == Token::BuiltIn(codes::AND) {
             let written = arguments(&here.written).into_iter();
-            let mut parts = written
+            let parts = written
                 .zip(arguments(&here.asked))
                 .map(|(written, asked)| self.part(written, asked));
-            match parts.find(|part| part.level == whole.level) {
-                Some(part) => here = part,
-                None => break,
+            let mut high = parts.filter(|part| part.level == whole.level);
+            match (high.next(), high.next()) {
+                (Some(part), None) => here = part,
+                _ => break,
             }
         }
         here

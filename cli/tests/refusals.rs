@@ -127,7 +127,7 @@ fn the_shape_of_json() {
 }
 
 /// A text, the number and place of its refusal, and pieces of what is said.
-const TEXTS: [(&str, u32, u32, &[&str]); 33] = [
+const TEXTS: [(&str, u32, u32, &[&str]); 36] = [
     ("---- MODULE M ----\nVARIABLE x\n", 4, 2, &["ends inside module M"]),
     (
         "---- MODULE M ----\n---- MODULE N ----\n",
@@ -271,6 +271,24 @@ const TEXTS: [(&str, u32, u32, &[&str]); 33] = [
         12,
         4,
         &["action and temporal do not mix: Next has level 2, Live has level 3"],
+    ),
+    (
+        "---- MODULE M ----\nVARIABLE x\nSpec == x = 0 /\\ (x' = 1 \\/ x' = 2) /\\ []x\n",
+        12,
+        2,
+        &["mix: x' = 1 \\/ x' = 2 has level 2", "[][x' = 1 \\/ x' = 2]_v is temporal"],
+    ),
+    (
+        "---- MODULE M ----\nVARIABLES x, y\nSpec == x' = 1 /\\ y' = 2 /\\ []x\n",
+        12,
+        3,
+        &["mix: x' = 1 /\\ y' = 2 has level 2", "[][x' = 1 /\\ y' = 2]_v is temporal"],
+    ),
+    (
+        "---- MODULE M ----\nVARIABLE x\nSpec == x = 0 \\/ x' = 1 \\/ []x\n",
+        12,
+        2,
+        &["mix: x = 0 \\/ x' = 1 has level 2", "[][x = 0 \\/ x' = 1]_v is temporal"],
     ),
     (
         "---- MODULE N ----\nCONSTANT K(_, _)\nVARIABLE u\nD == []K(u', []u)\n",
