@@ -127,7 +127,7 @@ fn the_shape_of_json() {
 }
 
 /// A text, the number and place of its refusal, and pieces of what is said.
-const TEXTS: [(&str, u32, u32, &[&str]); 36] = [
+const TEXTS: [(&str, u32, u32, &[&str]); 39] = [
     ("---- MODULE M ----\nVARIABLE x\n", 4, 2, &["ends inside module M"]),
     (
         "---- MODULE M ----\n---- MODULE N ----\n",
@@ -291,6 +291,24 @@ const TEXTS: [(&str, u32, u32, &[&str]); 36] = [
         &["mix: x = 0 \\/ x' = 1 has level 2", "[][x = 0 \\/ x' = 1]_v is temporal"],
     ),
     (
+        "---- MODULE M ----\nVARIABLE x\nSpec == x = 0 /\\ [x' = 1]_x /\\ WF_x(x' = 1)\n",
+        12,
+        2,
+        &["[][x' = 1]_x is temporal: it says of every step what [x' = 1]_x says of one"],
+    ),
+    (
+        "---- MODULE M ----\nVARIABLE x\nSpec == []x \\/ (x = 0 /\\ <<x' = 1>>_x)\n",
+        12,
+        2,
+        &["<><<x' = 1>>_x is temporal: it says of some step, sooner or later, what <<x' = 1>>_x says of one"],
+    ),
+    (
+        "---- MODULE M ----\nVARIABLES x, y\nSpec == [x' = 1]_x /\\ y' = 2 /\\ []x\n",
+        12,
+        3,
+        &["[][[x' = 1]_x /\\ y' = 2]_v is temporal"],
+    ),
+    (
         "---- MODULE N ----\nCONSTANT K(_, _)\nVARIABLE u\nD == []K(u', []u)\n",
         12,
         3,
@@ -379,6 +397,31 @@ fn in_words() {
         assert_eq!(json["number"], number, "{text}");
         assert_eq!(json["place"], place, "{text}");
         assert_ne!(json["message"], json["cause"], "{text}");
+    }
+}
+
+/// What is advised for an action is accepted in its place.
+#[test]
+fn advice() {
+    let check = |formula: &str| {
+        let text = format!("---- MODULE M ----\nVARIABLES x, y\nSpec == {formula}\n====\n");
+        run_with(&["check", "--json", "--as", "text", "-"], text.as_bytes())
+    };
+    for (formula, action) in [
+        ("x = 0 /\\ x' = 1 /\\ []x", "x' = 1"),
+        ("x = 0 /\\ (x' = 1 \\/ x' = 2) /\\ []x", "x' = 1 \\/ x' = 2"),
+        ("x' = 1 /\\ y' = 2 /\\ []x", "x' = 1 /\\ y' = 2"),
+        ("x = 0 \\/ x' = 1 \\/ []x", "x = 0 \\/ x' = 1"),
+        ("x = 0 /\\ [x' = 1]_x /\\ WF_x(x' = 1)", "[x' = 1]_x"),
+        ("<<x' = 1>>_x /\\ []x", "<<x' = 1>>_x"),
+    ] {
+        let refused = &check(formula).json()[0];
+        let notes = refused["notes"].as_array().expect("notes");
+        let mut notes = notes.iter().filter_map(Value::as_str);
+        let advised = notes.find_map(|note| Some(note.split_once(" is temporal")?.0));
+        let advised = advised.expect("advice").replace("]_v", "]_x");
+        let mended = formula.replacen(action, &advised, 1);
+        assert_eq!(check(&mended).status, 0, "{mended}");
     }
 }
 

@@ -7,6 +7,9 @@ use crate::innermost::Part;
 use crate::probe;
 use notation::{codes, Expr, Field, Token};
 
+/// The codes of [A]_v and <<A>>_v.
+const SQUARE: u8 = 115;
+const ANGLE: u8 = 116;
 const DO_NOT_MIX: &str = "action and temporal do not mix";
 const WHY: &str = "an action is true or false of a step, a temporal formula of a whole behaviour";
 
@@ -34,9 +37,7 @@ impl Site<'_> {
         finding = finding.note(WHY);
         let junction = matches!(whole.head(), Token::BuiltIn(codes::AND | codes::OR));
         match &written[0] {
-            Some(action) if junction => finding.note(format!(
-                "[][{action}]_v is temporal: every step satisfies it or leaves v as it is"
-            )),
+            Some(written) if junction => finding.note(made_temporal(action, written)),
             _ => finding,
         }
     }
@@ -114,5 +115,18 @@ impl Site<'_> {
             Some(meaning) => finding.other(self.outline.field(meaning), self.word(name), text),
             None => finding.note(text),
         }
+    }
+}
+
+/// What may be written for an action beside a temporal formula. Before [A]_v and <<A>>_v a sign was
+/// forgotten.
+fn made_temporal(action: &Part, written: &str) -> String {
+    let says = |sign, steps| {
+        format!("{sign}{written} is temporal: it says of {steps} what {written} says of one")
+    };
+    match action.head() {
+        Token::BuiltIn(SQUARE) => says("[]", "every step"),
+        Token::BuiltIn(ANGLE) => says("<>", "some step, sooner or later,"),
+        _ => format!("[][{written}]_v is temporal: every step satisfies it or leaves v as it is"),
     }
 }
