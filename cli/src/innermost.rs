@@ -1,6 +1,6 @@
 //! Where level 4 comes from: the innermost expression that has it, and what stands in it.
 
-use crate::probe::{level, unused};
+use crate::probe::{expansion, level, unused};
 use notation::{codes, Expr, Field, Token};
 
 /// An expression, as it stands in the field and as the archive is asked about it.
@@ -28,8 +28,27 @@ impl Part {
 pub struct Innermost {
     pub whole: Part,
     pub arguments: Vec<Part>,
-    /// An action and a temporal formula in it, each of them taken by itself, the two together not.
-    pub mixed: Option<[Part; 2]>,
+    pub mixed: Option<Mixed>,
+}
+
+/// An action and a temporal formula in one expression.
+pub enum Mixed {
+    /// Two arguments, each of them taken by itself, the two together not.
+    Arguments([Part; 2]),
+    /// An argument, and what stands beside it in the body of the operator that is called.
+    Body(InBody),
+}
+
+/// An argument that an operator puts beside what is in its body.
+pub struct InBody {
+    /// At level 2 or 3.
+    pub argument: Part,
+    /// The places of the argument and of those like it.
+    pub places: Vec<usize>,
+    /// The level of the call, 3 or 2, with a literal for these.
+    pub without: u8,
+    /// What the body joins the two by.
+    pub joined: Token,
 }
 
 /// Follows level 4 from an expression to the innermost one that has it.
@@ -50,7 +69,7 @@ pub fn innermost(before: &[Field], parameters: u8, body: &Expr) -> Option<Innerm
             arguments[at].level == Some(4) && place.takes(head, &arguments, &[at]) != Some(true)
         });
         let Some(next) = next else {
-            let mixed = place.mixed(head, &arguments);
+            let mixed = place.mixed(&here, &arguments);
             return Some(Innermost {
                 whole: here,
                 arguments,
@@ -108,8 +127,8 @@ impl Place {
             .collect()
     }
 
-    /// Whether some arguments are taken, a literal being put for every other.
-    fn takes(&self, head: Token, arguments: &[Part], kept: &[usize]) -> Option<bool> {
+    /// The level of a call of some of the arguments, a literal being put for every other.
+    fn level_of(&self, head: Token, arguments: &[Part], kept: &[usize]) -> Option<u8> {
         let literal = Expr::new(Token::Literal(0), &[]).ok()?;
         let each = arguments.iter().enumerate();
         let asked = each.map(|(at, argument)| match kept.contains(&at) {
@@ -117,12 +136,24 @@ impl Place {
             false => literal.clone(),
         });
         let asked: Vec<Expr> = asked.collect();
-        Some(self.level(&Expr::new(head, &asked).ok()?)? != 4)
+        self.level(&Expr::new(head, &asked).ok()?)
+    }
+
+    /// Whether some arguments are taken.
+    fn takes(&self, head: Token, arguments: &[Part], kept: &[usize]) -> Option<bool> {
+        Some(self.level_of(head, arguments, kept)? != 4)
+    }
+
+    fn mixed(&self, whole: &Part, arguments: &[Part]) -> Option<Mixed> {
+        match self.mixed_arguments(whole.head(), arguments) {
+            Some(pair) => Some(Mixed::Arguments(pair)),
+            None => self.mixed_in_body(whole, arguments).map(Mixed::Body),
+        }
     }
 
     /// Two arguments at 2 and 3 that are taken each without the other, and not together.
-    fn mixed(&self, head: Token, arguments: &[Part]) -> Option<[Part; 2]> {
-        let at = |level| (0..arguments.len()).filter(move |&at| arguments[at].level == Some(level));
+    fn mixed_arguments(&self, head: Token, arguments: &[Part]) -> Option<[Part; 2]> {
+        let at = |level| at_level(arguments, level);
         let mut pairs = at(2).flat_map(|action| at(3).map(move |temporal| [action, temporal]));
         let takes = |kept: &[usize]| self.takes(head, arguments, kept);
         let pair = pairs.find(|pair| {
@@ -130,6 +161,43 @@ impl Place {
             each && takes(pair) == Some(false)
         })?;
         Some(pair.map(|at| self.of_junction(&arguments[at])))
+    }
+
+    /// An argument without which the call has the other of 2 and 3. Cards do not tell whether the
+    /// two meet: `x' = 1 /\ ENABLED a` has that of `x' = 1 /\ a`. So the expansion is looked at.
+    fn mixed_in_body(&self, whole: &Part, arguments: &[Part]) -> Option<InBody> {
+        let expanded = expansion(&self.before, self.parameters, &whole.asked)?;
+        // A declared operator has no body.
+        if expanded.tokens()[0] == whole.head() {
+            return None;
+        }
+        let inner = innermost(&self.before, self.parameters, &expanded)?;
+        inner.mixed?;
+        let alone = (0..arguments.len()).map(|at| vec![at]);
+        let alike = [2, 3].map(|level| at_level(arguments, level).collect());
+        let (places, without) = alone.chain(alike).find_map(|places| {
+            let without = self.level_without(whole.head(), arguments, &places)?;
+            Some((places, without))
+        })?;
+        Some(InBody {
+            argument: self.of_junction(&arguments[places[0]]),
+            places,
+            without,
+            joined: inner.whole.head(),
+        })
+    }
+
+    /// The level of a call with literals for arguments that do not mix with it.
+    fn level_without(&self, head: Token, arguments: &[Part], places: &[usize]) -> Option<u8> {
+        let other = match arguments[*places.first()?].level? {
+            2 => 3,
+            3 => 2,
+            _ => return None,
+        };
+        let kept = (0..arguments.len()).filter(|at| !places.contains(at));
+        let kept: Vec<usize> = kept.collect();
+        let without = self.level_of(head, arguments, &kept)?;
+        (without == other).then_some(without)
     }
 
     /// Of a conjunction the part that has its level, if only one has: what is left is a state, and
@@ -149,6 +217,11 @@ impl Place {
         }
         here
     }
+}
+
+/// The places of the arguments that have a level.
+fn at_level(arguments: &[Part], level: u8) -> impl Iterator<Item = usize> + '_ {
+    (0..arguments.len()).filter(move |&at| arguments[at].level == Some(level))
 }
 
 /// The arguments of an expression's first token.

@@ -24,13 +24,26 @@ fn bytes(fields: &[Field]) -> Option<Vec<u8>> {
 /// The level, with parameters at 0, of an expression that stands after these fields of a module;
 /// `None` if the archive finds a fault in it.
 pub fn level(before: &[Field], parameters: u8, body: &Expr) -> Option<u8> {
+    let (file, module) = ended(before)?;
+    let levels = vec![0; usize::from(parameters)];
+    archive::level(&file, module, &body.encode(), &levels).ok()
+}
+
+/// The expansion of such an expression; `None` also if it is too long.
+pub fn expansion(before: &[Field], parameters: u8, body: &Expr) -> Option<Expr> {
+    let (file, module) = ended(before)?;
+    let bytes = archive::expand(&file, module, &body.encode(), usize::from(parameters)).ok()?;
+    Expr::decode(&bytes).ok()
+}
+
+/// A file that ends after these fields of a module, and that module.
+fn ended(before: &[Field]) -> Option<(Vec<u8>, u16)> {
     let module = before.iter().rev().find_map(|field| match field {
         Field::Module { name } => Some(*name),
         _ => None,
     })?;
     let fields = [before, &[Field::End]].concat();
-    let levels = vec![0; usize::from(parameters)];
-    archive::level(&bytes(&fields)?, module, &body.encode(), &levels).ok()
+    Some((bytes(&fields)?, module))
 }
 
 /// An operator name that nothing uses.

@@ -127,7 +127,7 @@ fn the_shape_of_json() {
 }
 
 /// A text, the number and place of its refusal, and pieces of what is said.
-const TEXTS: [(&str, u32, u32, &[&str]); 39] = [
+const TEXTS: [(&str, u32, u32, &[&str]); 47] = [
     ("---- MODULE M ----\nVARIABLE x\n", 4, 2, &["ends inside module M"]),
     (
         "---- MODULE M ----\n---- MODULE N ----\n",
@@ -324,6 +324,82 @@ const TEXTS: [(&str, u32, u32, &[&str]); 39] = [
         ],
     ),
     (
+        "---- MODULE M ----\nVARIABLE x\nOp(a) == x' = 1 /\\ a\nSpec == Op([]x)\n",
+        12,
+        3,
+        &[
+            "do not mix in Op: Op has level 2 with its argument at level 0, and []x has level 3",
+            "-- Op has level 2 (transition) with its argument at level 0",
+            "^^^ []x has level 3 (temporal)",
+            "the body of Op puts its argument beside an action",
+            "for an action A of Op, [][A]_v is temporal",
+        ],
+    ),
+    (
+        "---- MODULE M ----\nVARIABLE x\nOp(a) == []x /\\ a\nSpec == Op(x = 0 /\\ x' = 1)\n",
+        12,
+        3,
+        &[
+            "do not mix in Op: Op has level 3 with its argument at level 0, and x' = 1 has level 2",
+            "-- Op has level 3 (temporal) with its argument at level 0",
+            "^^^^^^ x' = 1 has level 2 (transition)",
+            "the body of Op puts its argument beside a temporal formula",
+            "[][x' = 1]_v is temporal",
+        ],
+    ),
+    (
+        "---- MODULE M ----\nVARIABLE x\nOp(a, b) == a /\\ b\nSpec == Op(x', []x)\n",
+        12,
+        3,
+        &[
+            "action and temporal do not mix in Op: x' has level 2, []x has level 3",
+        ],
+    ),
+    (
+        "---- MODULE M ----\nVARIABLE x\nOp(a, b) == ENABLED a /\\ x' = b\nSpec == Op(x', []x)\n",
+        12,
+        3,
+        &[
+            "Op has level 2 with its second argument at level 0, and []x has level 3",
+            "puts its second argument beside an action",
+        ],
+    ),
+    (
+        "---- MODULE M ----\nVARIABLE x\nOp(a, b, c) == []x /\\ a /\\ c\nSpec == Op(x', x, x' = 1)\n",
+        12,
+        3,
+        &[
+            "Op has level 3 with its first and third arguments at level 0, and x' has level 2",
+        ],
+    ),
+    (
+        "---- MODULE M ----\nVARIABLE x\nOp(a) == x' = 1 /\\ a\nOp2(b) == x > 0 /\\ Op(b)\nTHEOREM \\E i \\in x : Op2([](x = i))\n",
+        12,
+        4,
+        &[
+            "Op2 has level 2 with its argument at level 0, and an expression over a bound variable has level 3",
+        ],
+    ),
+    (
+        "---- MODULE L ----\nVARIABLE u\nF(a) == u' = 1 /\\ a\n====\n---- MODULE M ----\nVARIABLE x\nI(p) == INSTANCE L WITH u <- x + p\nLive == []x\nSpec == I!F(x, Live)\n",
+        12,
+        8,
+        &[
+            "do not mix in I!F: I!F has level 2 with its second argument at level 0, and Live has level 3",
+            "- I!F has level 2 (transition) with its second argument at level 0",
+            "^^^^ Live has level 3 (temporal)",
+        ],
+    ),
+    (
+        "---- MODULE L ----\nCONSTANT c\nF(a) == c /\\ a\n====\n---- MODULE M ----\nVARIABLE x\nINSTANCE L WITH c <- <>x\nSpec == F(x')\n",
+        12,
+        7,
+        &[
+            "do not mix in F: F has level 3 with its argument at level 0, and x' has level 2",
+            "INSTANCE L WITH c <- <>x",
+        ],
+    ),
+    (
         "---- MODULE M ----\nVARIABLE x\nTHEOREM \\E i \\in x' : <>x\n",
         12,
         2,
@@ -428,17 +504,23 @@ fn advice() {
 /// Where a level is not taken by itself, nothing is said of mixing.
 #[test]
 fn not_for_mixing() {
-    for formula in [
-        "[](x') /\\ <>x",
-        "x' ~> []x",
-        "[[]x]_(x')",
-        "WF_x([]x) /\\ x'",
+    for (formula, reason) in [
+        ("[](x') /\\ <>x", " takes "),
+        ("x' ~> []x", " takes "),
+        ("[[]x]_(x')", " takes "),
+        ("WF_x([]x) /\\ x'", " takes "),
+        ("Primed([]x)", "the card of Primed has level 4 there"),
+        ("Enabled([]x)", "the card of Enabled has level 4 there"),
+        ("Always(x')", "the card of Always has level 4 there"),
     ] {
-        let text = format!("---- MODULE M ----\nVARIABLE x\nTHEOREM {formula}\n");
+        let text = format!(
+            "---- MODULE M ----\nVARIABLE x\nPrimed(a) == a'\nEnabled(a) == x' = 1 /\\ ENABLED a\n\
+             Always(a) == []x /\\ []a\nTHEOREM {formula}\n"
+        );
         let check = run_with(&["check", "--as", "text", "-"], text.as_bytes());
         let said = format!("{}{}", check.text(), check.err);
-        assert!(said.contains("refused 12 at field 2"), "{said}");
-        assert!(said.contains(" takes "), "{said}");
+        assert!(said.contains("refused 12 at field 5"), "{said}");
+        assert!(said.contains(reason), "{said}");
         assert!(!said.contains("mix"), "{said}");
     }
 }

@@ -46,7 +46,7 @@ impl Site<'_> {
     fn innermost(&self, parameters: u8, body: &Expr) -> Option<Finding> {
         let inner = innermost(self.before, parameters, body)?;
         let finding = match &inner.mixed {
-            Some(mixed) => self.mixed_terms(parameters, &inner.whole, mixed),
+            Some(mixed) => self.mixed_terms(parameters, &inner, mixed),
             None => self.level_not_taken(parameters, &inner),
         };
         match parameters {

@@ -3,7 +3,7 @@
 use super::levels::Substitute;
 use super::{Finding, Focus, Site};
 use crate::causes::level;
-use crate::innermost::Part;
+use crate::innermost::{InBody, Innermost, Mixed, Part};
 use crate::probe;
 use notation::{codes, Expr, Field, Token};
 
@@ -13,31 +13,79 @@ const ANGLE: u8 = 116;
 const DO_NOT_MIX: &str = "action and temporal do not mix";
 const WHY: &str = "an action is true or false of a step, a temporal formula of a whole behaviour";
 
+/// A part whose text is not known.
+const UNWRITTEN: &str = "an expression over a bound variable";
+
 impl Site<'_> {
     /// An expression with an action and a temporal formula in it.
-    pub(super) fn mixed_terms(&self, parameters: u8, whole: &Part, mixed: &[Part; 2]) -> Finding {
+    pub(super) fn mixed_terms(&self, parameters: u8, inner: &Innermost, mixed: &Mixed) -> Finding {
+        match mixed {
+            Mixed::Arguments(mixed) => self.mixed_arguments(parameters, &inner.whole, mixed),
+            Mixed::Body(mixed) => self.mixed_in_body(parameters, inner, mixed),
+        }
+    }
+
+    fn mixed_arguments(&self, parameters: u8, whole: &Part, mixed: &[Part; 2]) -> Finding {
         let [action, temporal] = mixed;
         let written = [action, temporal].map(|part| self.written_part(parameters, part));
-        let [first, second] = [&written[0], &written[1]].map(|each| match each {
-            Some(written) => written.as_str(),
-            None => "an expression over a bound variable",
-        });
+        let [first, second] =
+            [&written[0], &written[1]].map(|each| each.as_deref().unwrap_or(UNWRITTEN));
         let within = match self.called(whole.head()) {
             Some(called) => format!(" in {called}"),
             None => String::new(),
         };
         let message = format!("{DO_NOT_MIX}{within}: {first} has level 2, {second} has level 3");
         let mut finding = Finding::new(message);
-        for (part, written, found) in [(action, &written[0], 2), (temporal, &written[1], 3)] {
-            if let Some(written) = written {
-                let text = format!("{written} has {}", level(found));
-                finding = finding.point(self.place, self.piece(part, written), text);
-            }
+        for (part, written) in mixed.iter().zip(&written) {
+            finding = self.point_at(finding, part, written.as_deref());
         }
         finding = finding.note(WHY);
-        let junction = matches!(whole.head(), Token::BuiltIn(codes::AND | codes::OR));
         match &written[0] {
-            Some(written) if junction => finding.note(made_temporal(action, written)),
+            Some(written) if is_junction(whole.head()) => {
+                finding.note(made_temporal(action, written))
+            }
+            _ => finding,
+        }
+    }
+
+    /// A call of an operator whose body puts an argument beside what does not mix with it.
+    fn mixed_in_body(&self, parameters: u8, inner: &Innermost, mixed: &InBody) -> Finding {
+        let head = inner.whole.head();
+        let called = self.called(head).unwrap_or_default();
+        let written = self.written_part(parameters, &mixed.argument);
+        let which = which(&mixed.places, inner.arguments.len());
+        let own = |level: String| format!("{called} has {level} with its {which} at level 0");
+        let (given, beside) = match mixed.without {
+            2 => (3, "an action"),
+            _ => (2, "a temporal formula"),
+        };
+        let finding = Finding::new(format!(
+            "{DO_NOT_MIX} in {called}: {}, and {} has level {given}",
+            own(format!("level {}", mixed.without)),
+            written.as_deref().unwrap_or(UNWRITTEN),
+        ));
+        let finding = self.point_at(finding, &mixed.argument, written.as_deref());
+        let finding = self
+            .at_meaning(finding, head, own(level(mixed.without)))
+            .note(format!(
+                "the body of {called} puts its {which} beside {beside}"
+            ))
+            .note(WHY);
+        match (given, written) {
+            _ if !is_junction(mixed.joined) => finding,
+            (2, Some(written)) => finding.note(made_temporal(&mixed.argument, &written)),
+            (2, None) => finding,
+            _ => finding.note(format!("for an action A of {called}, {}", every_step("A"))),
+        }
+    }
+
+    /// Marks a part with its level.
+    fn point_at(&self, finding: Finding, part: &Part, written: Option<&str>) -> Finding {
+        match (written, part.level) {
+            (Some(written), Some(found)) => {
+                let text = format!("{written} has {}", level(found));
+                finding.point(self.place, self.piece(part, written), text)
+            }
             _ => finding,
         }
     }
@@ -104,17 +152,40 @@ impl Site<'_> {
         written: &str,
         found: String,
     ) -> Finding {
-        let name = each.declared.name;
         if each.written.is_some() {
             let text = format!("{written} has {found}");
             return finding.point(self.place, self.substituted_at(each), text);
         }
         let text = format!("{written} stands for itself, and has {found}");
+        self.at_meaning(finding, each.expression.tokens()[0], text)
+    }
+
+    /// Says something of a name where it, or the instance that it is brought by, gets its meaning.
+    fn at_meaning(&self, finding: Finding, head: Token, text: String) -> Finding {
+        let (Token::Name { name, .. } | Token::Instance { instance: name, .. }) = head else {
+            return finding.note(text);
+        };
         let meaning = self.outline.open().and_then(|open| open.meaning(name));
         match meaning {
             Some(meaning) => finding.other(self.outline.field(meaning), self.word(name), text),
             None => finding.note(text),
         }
+    }
+}
+
+fn is_junction(head: Token) -> bool {
+    matches!(head, Token::BuiltIn(codes::AND | codes::OR))
+}
+
+/// Some of an operator's arguments, which are three at most.
+fn which(places: &[usize], count: usize) -> String {
+    let word = |&place: &usize| ["first", "second", "third"][place.min(2)];
+    let words: Vec<&str> = places.iter().map(word).collect();
+    match (places.len(), count) {
+        (1, 1) => "argument".to_string(),
+        (1, _) => format!("{} argument", words[0]),
+        (some, all) if some == all => "arguments".to_string(),
+        _ => format!("{} arguments", words.join(" and ")),
     }
 }
 
@@ -127,6 +198,10 @@ fn made_temporal(action: &Part, written: &str) -> String {
     match action.head() {
         Token::BuiltIn(SQUARE) => says("[]", "every step"),
         Token::BuiltIn(ANGLE) => says("<>", "some step, sooner or later,"),
-        _ => format!("[][{written}]_v is temporal: every step satisfies it or leaves v as it is"),
+        _ => every_step(written),
     }
+}
+
+fn every_step(action: &str) -> String {
+    format!("[][{action}]_v is temporal: every step satisfies it or leaves v as it is")
 }
