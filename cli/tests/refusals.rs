@@ -476,6 +476,31 @@ fn in_words() {
     }
 }
 
+/// A part that is a name of the file is among the names, and so is an operator that mixes.
+#[test]
+fn names_of_mixed_terms() {
+    for (formula, names) in [
+        ("Start /\\ Live", &["Start", "Live"][..]),
+        ("Live /\\ x = 0 /\\ Start", &["Start", "Live"]),
+        ("Start /\\ []x", &["Start"]),
+        ("x' = 1 /\\ []x", &[]),
+        ("I!Step /\\ Live", &["I!Step", "Live"]),
+        ("Both(Start, Live)", &["Start", "Live"]),
+        ("With(Live)", &["With", "Live"]),
+        ("With([]x)", &["With"]),
+    ] {
+        let text = format!(
+            "---- MODULE L ----\nVARIABLE x\nStep == x' = 2\n====\n---- MODULE M ----\nVARIABLE x\n\
+             Start == x' = 1\nLive == <>x\nBoth(a, b) == a /\\ b\nWith(a) == x' = 1 /\\ a\n\
+             I == INSTANCE L\nSpec == {formula}\n"
+        );
+        let words = ["check", "--json", "--as", "text", "-"];
+        let json = &run_with(&words, text.as_bytes()).json()[0];
+        assert_eq!(json["place"], 11, "{formula}");
+        assert_eq!(json["names"], serde_json::json!(names), "{formula}");
+    }
+}
+
 /// What is advised for an action is accepted in its place.
 #[test]
 fn advice() {

@@ -64,6 +64,7 @@ impl Site<'_> {
             own(format!("level {}", mixed.without)),
             written.as_deref().unwrap_or(UNWRITTEN),
         ));
+        let finding = finding.name(&called);
         let finding = self.point_at(finding, &mixed.argument, written.as_deref());
         let finding = self
             .at_meaning(finding, head, own(level(mixed.without)))
@@ -79,13 +80,16 @@ impl Site<'_> {
         }
     }
 
-    /// Marks a part with its level.
+    /// Marks a part with its level, and notes its name if it is one.
     fn point_at(&self, finding: Finding, part: &Part, written: Option<&str>) -> Finding {
-        match (written, part.level) {
-            (Some(written), Some(found)) => {
-                let text = format!("{written} has {}", level(found));
-                finding.point(self.place, self.piece(part, written), text)
-            }
+        let (Some(written), Some(found)) = (written, part.level) else {
+            return finding;
+        };
+        let text = format!("{written} has {}", level(found));
+        let finding = finding.point(self.place, self.piece(part, written), text);
+        let alone = part.closed().is_some_and(|each| each.tokens().len() == 1);
+        match self.called(part.head()) {
+            Some(name) if alone => finding.name(name),
             _ => finding,
         }
     }
