@@ -3,7 +3,7 @@
 use crate::archive::Refusal;
 use crate::causes;
 use crate::finding::Finding;
-use crate::json::{Card, Refused};
+use crate::json::{Card, Refused, Words};
 use crate::question::Question;
 use serde::Serialize;
 
@@ -32,9 +32,7 @@ impl<A> Answer<A> {
             place: refusal.place,
             cause: causes::cause(refusal.number).map_or("", |cause| cause.title),
             field: None,
-            message: finding.message.clone(),
-            names: finding.names.clone(),
-            notes: finding.notes.clone(),
+            words: finding.clone().into(),
         }))
     }
 }
@@ -72,6 +70,9 @@ impl LevelAsked {
 #[derive(Serialize)]
 pub struct Level {
     pub level: u8,
+    /// Why it is 4, as far as that is known.
+    #[serde(flatten)]
+    pub why: Option<Words>,
 }
 
 /// A query for an expansion.

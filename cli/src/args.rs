@@ -33,7 +33,8 @@ Examples:
   rafterclary level samples/example.bin 1 --hex \"02 0003 01 02 0002 00\"
 
 The reply is 0 constant, 1 state, 2 transition, 3 temporal or 4 not level-correct; 4 is an
-ordinary reply. Names without a spelling are n1, n2 and so on.
+ordinary reply, and a note on standard error says why. Names without a spelling are n1, n2 and
+so on.
 
 Exit status: 0 answered, 1 refused, 2 misuse.";
 

@@ -48,6 +48,21 @@ pub fn refused(
     finding: &Finding,
     colors: Colors,
 ) -> Result<(), Misuse> {
+    let diagnostic = Diagnostic::error().with_code(format!("refusal {number}"));
+    found(input, diagnostic, finding, colors)
+}
+
+/// Tells why an expression that is asked about is not level-correct, which is no fault.
+pub fn explained(input: &Input, finding: &Finding, colors: Colors) -> Result<(), Misuse> {
+    found(input, Diagnostic::note(), finding, colors)
+}
+
+fn found(
+    input: &Input,
+    diagnostic: Diagnostic<()>,
+    finding: &Finding,
+    colors: Colors,
+) -> Result<(), Misuse> {
     let mut labels = Vec::new();
     if let Some(mark) = &finding.mark {
         labels.push(Label::primary((), span(input, mark)).with_message(&mark.text));
@@ -55,8 +70,7 @@ pub fn refused(
     for mark in &finding.others {
         labels.push(Label::secondary((), span(input, mark)).with_message(&mark.text));
     }
-    let diagnostic = Diagnostic::error()
-        .with_code(format!("refusal {number}"))
+    let diagnostic = diagnostic
         .with_message(&finding.message)
         .with_labels(labels)
         .with_notes(finding.notes.clone());

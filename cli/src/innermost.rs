@@ -19,6 +19,11 @@ impl Part {
         (self.written == self.asked).then_some(&self.written)
     }
 
+    /// Whether it is a name, a parameter or the like by itself.
+    pub fn alone(&self) -> bool {
+        self.written.tokens().len() == 1
+    }
+
     pub fn head(&self) -> Token {
         self.written.tokens()[0]
     }
@@ -51,11 +56,12 @@ pub struct InBody {
     pub joined: Token,
 }
 
-/// Follows level 4 from an expression to the innermost one that has it.
-pub fn innermost(before: &[Field], parameters: u8, body: &Expr) -> Option<Innermost> {
+/// Follows level 4 from an expression, with parameters at these levels, to the innermost one that
+/// has it.
+pub fn innermost(before: &[Field], levels: &[u8], body: &Expr) -> Option<Innermost> {
     let mut place = Place {
         before: before.to_vec(),
-        parameters,
+        levels,
     };
     let mut here = place.part(body.clone(), body.clone());
     if here.level? != 4 {
@@ -81,14 +87,15 @@ pub fn innermost(before: &[Field], parameters: u8, body: &Expr) -> Option<Innerm
 }
 
 /// The fields before an expression, and what it is over.
-struct Place {
+struct Place<'l> {
     before: Vec<Field>,
-    parameters: u8,
+    /// Of its parameters.
+    levels: &'l [u8],
 }
 
-impl Place {
+impl Place<'_> {
     fn level(&self, expression: &Expr) -> Option<u8> {
-        level(&self.before, self.parameters, expression)
+        level(&self.before, self.levels, expression)
     }
 
     fn part(&self, written: Expr, asked: Expr) -> Part {
@@ -166,12 +173,12 @@ impl Place {
     /// An argument without which the call has the other of 2 and 3. Cards do not tell whether the
     /// two meet: `x' = 1 /\ ENABLED a` has that of `x' = 1 /\ a`. So the expansion is looked at.
     fn mixed_in_body(&self, whole: &Part, arguments: &[Part]) -> Option<InBody> {
-        let expanded = expansion(&self.before, self.parameters, &whole.asked)?;
+        let expanded = expansion(&self.before, self.levels.len(), &whole.asked)?;
         // A declared operator has no body.
         if expanded.tokens()[0] == whole.head() {
             return None;
         }
-        let inner = innermost(&self.before, self.parameters, &expanded)?;
+        let inner = innermost(&self.before, self.levels, &expanded)?;
         inner.mixed?;
         let alone = (0..arguments.len()).map(|at| vec![at]);
         let alike = [2, 3].map(|level| at_level(arguments, level).collect());

@@ -40,9 +40,26 @@ pub struct Refused {
     pub cause: &'static str,
     /// `null` where the place is no field.
     pub field: Option<Field>,
+    #[serde(flatten)]
+    pub words: Words,
+}
+
+/// What is told to people.
+#[derive(Serialize)]
+pub struct Words {
     pub message: String,
     pub names: Vec<String>,
     pub notes: Vec<String>,
+}
+
+impl From<Finding> for Words {
+    fn from(finding: Finding) -> Words {
+        Words {
+            message: finding.message,
+            names: finding.names,
+            notes: finding.notes,
+        }
+    }
 }
 
 #[derive(Serialize)]
@@ -114,9 +131,7 @@ impl Refused {
             place: refusal.place,
             cause: causes::cause(refusal.number).map_or("", |cause| cause.title),
             field: Field::at(input, refusal),
-            message: finding.message,
-            names: finding.names,
-            notes: finding.notes,
+            words: finding.into(),
         }
     }
 }

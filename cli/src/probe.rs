@@ -21,18 +21,17 @@ fn bytes(fields: &[Field]) -> Option<Vec<u8>> {
     notation::encode(&file).ok()
 }
 
-/// The level, with parameters at 0, of an expression that stands after these fields of a module;
-/// `None` if the archive finds a fault in it.
-pub fn level(before: &[Field], parameters: u8, body: &Expr) -> Option<u8> {
+/// The level, with parameters at these levels, of an expression that stands after these fields of
+/// a module; `None` if the archive finds a fault in it.
+pub fn level(before: &[Field], levels: &[u8], body: &Expr) -> Option<u8> {
     let (file, module) = ended(before)?;
-    let levels = vec![0; usize::from(parameters)];
-    archive::level(&file, module, &body.encode(), &levels).ok()
+    archive::level(&file, module, &body.encode(), levels).ok()
 }
 
 /// The expansion of such an expression; `None` also if it is too long.
-pub fn expansion(before: &[Field], parameters: u8, body: &Expr) -> Option<Expr> {
+pub fn expansion(before: &[Field], parameters: usize, body: &Expr) -> Option<Expr> {
     let (file, module) = ended(before)?;
-    let bytes = archive::expand(&file, module, &body.encode(), usize::from(parameters)).ok()?;
+    let bytes = archive::expand(&file, module, &body.encode(), parameters).ok()?;
     Expr::decode(&bytes).ok()
 }
 

@@ -43,11 +43,89 @@ fn trial_lines() {
         let words = ["level", "samples/trial-levels.tla", "Trial", expression];
         let told = run(&[&words[..], levels].concat());
         assert_eq!(told.text(), reply, "{expression}");
-        assert_eq!((told.status, told.err.as_str()), (0, ""), "{expression}");
+        assert_eq!(told.status, 0, "{expression}");
+        // Of 4 the reasons are told beside the reply.
+        assert_eq!(told.err.is_empty(), !reply.starts_with('4'), "{expression}");
     }
     let refused = run(&["level", "samples/trial-n.tla", "N", "D"]);
     assert_eq!(refused.status, 1);
     assert!(refused.text().contains("refused 12 at field 3"));
+}
+
+/// The reply 4 is told like a refusal of a definition, with the parameters at the levels given.
+#[test]
+fn reasons_of_4() {
+    for (expression, levels, names, pieces) in [
+        (
+            "x' = 1 /\\ []y",
+            &[][..],
+            &[][..],
+            &[
+                "note: action and temporal do not mix: x' = 1 has level 2, []y has level 3",
+                "^^^^^^    --- []y has level 3 (temporal)",
+                "[][x' = 1]_v is temporal",
+            ][..],
+        ),
+        (
+            "Level2 /\\ x = 0 /\\ Level3",
+            &[],
+            &["Level2", "Level3"],
+            &["action and temporal do not mix: Level2 has level 2, Level3 has level 3"],
+        ),
+        (
+            "x' = 1 /\\ p",
+            &["p=temporal"],
+            &[],
+            &[
+                "x' = 1 has level 2, p has level 3",
+                "- p has level 3 (temporal)",
+                "given: p at level 3 (temporal)",
+            ],
+        ),
+        (
+            "G(p, q)",
+            &["p=2", "q=3"],
+            &["G"],
+            &[
+                "G has level 3 with its first argument at level 0, and p has level 2",
+                "field 12: G has level 3 (temporal)",
+                "given: p at level 2 (transition), q at level 3 (temporal)",
+            ],
+        ),
+        (
+            "G(p, q)",
+            &["p=2", "q=0"],
+            &[],
+            &[
+                "G(p, q) is not level-correct",
+                "its arguments have levels 2, 0",
+            ],
+        ),
+        (
+            "Level0 + p",
+            &["p=4"],
+            &[],
+            &["p is not level-correct", "         ^ level 4"],
+        ),
+    ] {
+        let words = ["level", "samples/trial-levels.tla", "Trial", expression];
+        let told = run(&[&words[..], levels].concat());
+        assert_eq!((told.status, told.text()), (0, "4 not level-correct\n"));
+        for piece in pieces {
+            assert!(told.err.contains(piece), "{piece}\n{}", told.err);
+        }
+        let told = run(&[&words[..], levels, &["--json"]].concat());
+        assert_eq!((told.status, told.err.as_str()), (0, ""));
+        let json = &told.json()[0];
+        assert_eq!(
+            (&json["verdict"], &json["level"]),
+            (&json!("answered"), &json!(4))
+        );
+        assert_eq!(json["names"], json!(names), "{expression}");
+        let message = json["message"].as_str().expect("text");
+        assert!(message.contains(pieces[0].trim_start_matches("note: ")));
+        assert!(json["notes"].is_array());
+    }
 }
 
 #[test]

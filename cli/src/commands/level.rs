@@ -4,7 +4,8 @@ use super::{accepted, put, put_json, refused, refused_query, Failure, Options, T
 use crate::answers::{Answer, Asked, Level, LevelAsked};
 use crate::archive;
 use crate::causes::LEVELS;
-use crate::finding::find_asked;
+use crate::diagnostics;
+use crate::finding::{find_asked, find_level, Told};
 use crate::input::Input;
 use crate::question::{levelled, Given, Question};
 use crate::{Misuse, Status};
@@ -29,24 +30,45 @@ pub fn run(
     let question = Question::new(&input, module, given, parameters, options.colors)?;
     let Question { module, bytes, .. } = &question;
     let reply = archive::level(&input.bytes, *module, bytes, &question.levels());
-    let told = match reply {
-        Ok(level) if options.json => {
-            let answer = Answer::Answered(Level { level });
-            return say(&input, &question, answer, Status::Accepted);
-        }
+    match reply {
         Ok(level) => {
-            let word = LEVELS.get(usize::from(level)).unwrap_or(&"");
-            put(format!("{level} {word}\n").as_bytes())?;
-            return Ok(Status::Accepted);
+            let why = (level == 4).then(|| find_level(&input, &outline, &question));
+            answered(options, &input, &question, level, why.flatten())
         }
-        Err(refusal) => (refusal, find_asked(&input, &outline, &question, refusal)),
-    };
-    let (refusal, told) = told;
-    if options.json {
-        let answer = Answer::refused(refusal, &told.finding);
-        return say(&input, &question, answer, Status::Refused);
+        Err(refusal) => {
+            let told = find_asked(&input, &outline, &question, refusal);
+            if options.json {
+                let answer = Answer::refused(refusal, &told.finding);
+                return say(&input, &question, answer, Status::Refused);
+            }
+            refused_query(options, &input, refusal, &told)
+        }
     }
-    refused_query(options, &input, refusal, &told)
+}
+
+/// Tells a level, and of 4 the reasons.
+fn answered(
+    options: Options,
+    input: &Input,
+    question: &Question,
+    level: u8,
+    why: Option<Told>,
+) -> Result<Status, Misuse> {
+    if options.json {
+        let why = why.map(|told| told.finding.into());
+        let answer = Answer::Answered(Level { level, why });
+        return say(input, question, answer, Status::Accepted);
+    }
+    let word = LEVELS.get(usize::from(level)).unwrap_or(&"");
+    put(format!("{level} {word}\n").as_bytes())?;
+    if let Some(Told {
+        finding,
+        input: Some(asked),
+    }) = &why
+    {
+        diagnostics::explained(asked, finding, options.colors)?;
+    }
+    Ok(Status::Accepted)
 }
 
 fn say(

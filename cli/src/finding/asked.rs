@@ -1,7 +1,7 @@
 //! A query's own refusals: 17, 3, 5, 9 and 10 of its expression and parameters, and 18.
 
 use super::limits::{within, PARAMETERS};
-use super::{find, title, Finding, Focus};
+use super::{find, title, Finding, Focus, Site};
 use crate::archive::Refusal;
 use crate::input::Input;
 use crate::outline::Outline;
@@ -35,7 +35,7 @@ pub fn find_asked(input: &Input, outline: &Outline, question: &Question, refusal
             input: None,
         };
     };
-    let mut finding = match number {
+    let finding = match number {
         5 => limit(question, place),
         _ => find(
             &asked,
@@ -45,15 +45,39 @@ pub fn find_asked(input: &Input, outline: &Outline, question: &Question, refusal
             },
         ),
     };
-    // Other fields have no text beside the expression's.
-    for other in std::mem::take(&mut finding.others) {
-        let note = format!("field {}: {}", other.field, other.text);
-        finding.notes.push(note);
-    }
     Told {
-        finding,
+        finding: alone(finding, place),
         input: Some(asked),
     }
+}
+
+/// Why a query with an expression has the reply 4.
+pub fn find_level(input: &Input, outline: &Outline, question: &Question) -> Option<Told> {
+    let (asked, place) = question.as_field(input, outline)?;
+    let site = Site {
+        given: &question.parameters,
+        ..Site::new(&asked, place)?
+    };
+    let finding = alone(site.not_level_correct()?, place);
+    Some(Told {
+        finding,
+        input: Some(asked),
+    })
+}
+
+/// A finding whose other fields have no text beside the expression's.
+fn alone(mut finding: Finding, place: usize) -> Finding {
+    let others = std::mem::take(&mut finding.others);
+    for other in others {
+        match other.field == place {
+            true => finding.others.push(other),
+            false => {
+                let note = format!("field {}: {}", other.field, other.text);
+                finding.notes.push(note);
+            }
+        }
+    }
+    finding
 }
 
 /// Cause 17 of a definition's number.

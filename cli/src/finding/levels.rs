@@ -5,6 +5,7 @@ use crate::causes::{self, level};
 use crate::innermost::{innermost, Innermost, Part};
 use crate::outline::{Declaration, Module};
 use crate::probe;
+use crate::question;
 use notation::{Expr, Field, File, Token};
 
 /// What stands in a declared name's place.
@@ -15,6 +16,14 @@ pub(super) struct Substitute {
     pub(super) parameters: u8,
     /// Its place among the substitutions that are written.
     pub(super) written: Option<usize>,
+}
+
+impl Substitute {
+    /// With its parameters at 0.
+    pub(super) fn level(&self, before: &[Field]) -> Option<u8> {
+        let levels = vec![0; usize::from(self.parameters)];
+        probe::level(before, &levels, &self.expression)
+    }
 }
 
 impl Site<'_> {
@@ -44,14 +53,31 @@ impl Site<'_> {
 
     /// The innermost expression that is not level-correct.
     fn innermost(&self, parameters: u8, body: &Expr) -> Option<Finding> {
-        let inner = innermost(self.before, parameters, body)?;
+        let inner = innermost(self.before, &self.levels(parameters), body)?;
         let finding = match &inner.mixed {
             Some(mixed) => self.mixed_terms(parameters, &inner, mixed),
             None => self.level_not_taken(parameters, &inner),
         };
+        match self.taken_at(parameters) {
+            None => Some(finding),
+            Some(taken) => Some(finding.note(taken)),
+        }
+    }
+
+    /// The levels at which parameters are taken: those that a query gives, or 0.
+    fn levels(&self, parameters: u8) -> Vec<u8> {
+        let given = |place: usize| self.given.get(place).map_or(0, |each| each.level);
+        (0..usize::from(parameters)).map(given).collect()
+    }
+
+    fn taken_at(&self, parameters: u8) -> Option<String> {
+        let given = self.given.iter();
+        let given = given.map(|each| format!("{} at {}", each.name, level(each.level)));
+        let given: Vec<String> = given.collect();
         match parameters {
-            0 => Some(finding),
-            _ => Some(finding.note("parameters are taken at level 0")),
+            0 => None,
+            _ if given.is_empty() => Some("parameters are taken at level 0".to_string()),
+            _ => Some(format!("given: {}", given.join(", "))),
         }
     }
 
@@ -75,7 +101,7 @@ impl Site<'_> {
         let (message, focus) = match self.written_part(parameters, &inner.whole) {
             Some(written) => (
                 format!("{written} is not level-correct"),
-                Focus::Piece(written),
+                piece(&inner.whole, &written),
             ),
             None => (
                 "an expression is not level-correct".to_string(),
@@ -110,6 +136,9 @@ impl Site<'_> {
     /// An expression of this field as it would be written there.
     pub(super) fn written(&self, parameters: u8, expression: &Expr) -> Option<String> {
         let names = &self.input.file.names;
+        if !self.given.is_empty() {
+            return Some(question::written(expression, names, self.given));
+        }
         if matches!(self.field, Field::Instance { .. }) {
             return Some(notation::print_expression(expression, names, parameters));
         }
@@ -137,7 +166,7 @@ impl Site<'_> {
         let Field::Assume { formula } = self.field else {
             return None;
         };
-        let found = probe::level(self.before, 0, formula)?;
+        let found = probe::level(self.before, &[], formula)?;
         let finding = Finding::new(format!("what is assumed has {}, not level 0", level(found)));
         Some(finding.mark(self.place, Focus::Field, level(found)))
     }
@@ -211,8 +240,9 @@ impl Site<'_> {
         let declared = substitute.declared;
         let name = self.operator(declared.name);
         let called = format!("module {}", self.input.module(*module));
-        let found = probe::level(self.before, substitute.parameters, &substitute.expression);
-        let found = found.map_or_else(|| "too high a level".to_string(), level);
+        let found = substitute
+            .level(self.before)
+            .map_or_else(|| "too high a level".to_string(), level);
         let (kind, takes) = match declared {
             Declaration { variable: true, .. } => ("variable", "level 0 or 1"),
             Declaration { arguments: 1.., .. } => ("operator", "level 0"),
@@ -274,6 +304,14 @@ impl Site<'_> {
         finding.note(format!(
             "module {called} {reason}, so its constants may be replaced by constants only"
         ))
+    }
+}
+
+/// A part of the field's text; what is one word is looked for as a word.
+pub(super) fn piece(part: &Part, written: &str) -> Focus {
+    match part.alone() {
+        true => Focus::Word(written.to_string()),
+        false => Focus::Piece(written.to_string()),
     }
 }
 

@@ -1,11 +1,10 @@
 //! An action beside a temporal formula: in an expression (cause 12), among substitutes (cause 21).
 
-use super::levels::Substitute;
-use super::{Finding, Focus, Site};
+use super::levels::{piece, Substitute};
+use super::{Finding, Site};
 use crate::causes::level;
 use crate::innermost::{InBody, Innermost, Mixed, Part};
-use crate::probe;
-use notation::{codes, Expr, Field, Token};
+use notation::{codes, Field, Token};
 
 /// The codes of [A]_v and <<A>>_v.
 const SQUARE: u8 = 115;
@@ -86,19 +85,10 @@ impl Site<'_> {
             return finding;
         };
         let text = format!("{written} has {}", level(found));
-        let finding = finding.point(self.place, self.piece(part, written), text);
-        let alone = part.closed().is_some_and(|each| each.tokens().len() == 1);
+        let finding = finding.point(self.place, piece(part, written), text);
         match self.called(part.head()) {
-            Some(name) if alone => finding.name(name),
+            Some(name) if part.alone() => finding.name(name),
             _ => finding,
-        }
-    }
-
-    /// A part of the field's text; a name is looked for as a word.
-    fn piece(&self, part: &Part, written: &str) -> Focus {
-        match part.closed().map(Expr::tokens) {
-            Some(&[Token::Name { name, .. }]) => self.word(name),
-            _ => Focus::Piece(written.to_string()),
         }
     }
 
@@ -108,10 +98,9 @@ impl Site<'_> {
             return None;
         };
         let substitutes = self.substitutes(self.outline.ended(*module)?);
-        let at = |wanted: u8| {
-            substitutes.iter().find(|each| {
-                probe::level(self.before, each.parameters, &each.expression) == Some(wanted)
-            })
+        let at = |wanted| {
+            let mut each = substitutes.iter();
+            each.find(|each| each.level(self.before) == Some(wanted))
         };
         let (action, temporal) = (at(2)?, at(3)?);
         let called = format!("module {}", self.input.module(*module));

@@ -9,12 +9,13 @@ mod limits;
 mod mixing;
 mod names;
 
-pub use asked::{find_asked, no_definition, Told};
+pub use asked::{find_asked, find_level, no_definition, Told};
 
 use crate::archive::Refusal;
 use crate::causes;
 use crate::input::Input;
 use crate::outline::Outline;
+use crate::question::Parameter;
 use notation::Field;
 
 /// A part of a field's text.
@@ -102,6 +103,8 @@ struct Site<'i> {
     before: &'i [Field],
     field: &'i Field,
     place: usize,
+    /// The parameters of a query; none of a file's field, whose parameters are taken at level 0.
+    given: &'i [Parameter],
 }
 
 /// Puts a refusal of a file into words.
@@ -112,18 +115,7 @@ pub fn find(input: &Input, refusal: Refusal) -> Finding {
         (2, _) => Some(size(input)),
         (3, _) => layout(input, place),
         (4, field) => Some(order(input, place, field)),
-        (number, Some(field)) => {
-            let before = &fields[..place];
-            let site = Site {
-                input,
-                outline: Outline::of(before),
-                before,
-                field,
-                place,
-            };
-            site.find(number)
-        }
-        _ => None,
+        (number, _) => Site::new(input, place).and_then(|site| site.find(number)),
     };
     let mut finding = found.unwrap_or_else(|| Finding::new(title(refusal.number)));
     if finding.mark.is_none() && place < fields.len() && refusal.number > 3 {
@@ -136,7 +128,20 @@ fn title(number: u32) -> &'static str {
     causes::cause(number).map_or("refused", |cause| cause.title)
 }
 
-impl Site<'_> {
+impl<'i> Site<'i> {
+    fn new(input: &'i Input, place: usize) -> Option<Site<'i>> {
+        let field = input.file.fields.get(place)?;
+        let before = &input.file.fields[..place];
+        Some(Site {
+            input,
+            outline: Outline::of(before),
+            before,
+            field,
+            place,
+            given: &[],
+        })
+    }
+
     fn find(&self, number: u32) -> Option<Finding> {
         match number {
             5 => self.limit(),
