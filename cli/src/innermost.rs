@@ -11,6 +11,8 @@ pub struct Part {
     asked: Expr,
     /// As far as the archive tells.
     pub level: Option<u8>,
+    /// For each binder before it in the field's expression, whether it stands under that.
+    binders: Vec<bool>,
 }
 
 impl Part {
@@ -26,6 +28,28 @@ impl Part {
 
     pub fn head(&self) -> Token {
         self.written.tokens()[0]
+    }
+
+    pub fn written(&self) -> &Expr {
+        &self.written
+    }
+
+    pub fn binders(&self) -> &[bool] {
+        &self.binders
+    }
+
+    /// For each argument, the binders before it: this one, then those in earlier arguments.
+    fn binders_before(&self, arguments: &[Expr]) -> Vec<Vec<bool>> {
+        let own = usize::from(binds(&self.head()));
+        let mut inside = 0;
+        let each = arguments.iter().enumerate().map(|(at, argument)| {
+            let mut binders = self.binders.clone();
+            binders.extend(vec![at + 1 == arguments.len(); own]);
+            binders.extend(vec![false; inside]);
+            inside += argument.tokens().iter().filter(|each| binds(each)).count();
+            binders
+        });
+        each.collect()
     }
 }
 
@@ -63,7 +87,7 @@ pub fn innermost(before: &[Field], levels: &[u8], body: &Expr) -> Option<Innermo
         before: before.to_vec(),
         levels,
     };
-    let mut here = place.part(body.clone(), body.clone());
+    let mut here = place.part(body.clone(), body.clone(), Vec::new());
     if here.level? != 4 {
         return None;
     }
@@ -98,13 +122,23 @@ impl Place<'_> {
         level(&self.before, self.levels, expression)
     }
 
-    fn part(&self, written: Expr, asked: Expr) -> Part {
+    fn part(&self, written: Expr, asked: Expr, binders: Vec<bool>) -> Part {
         let level = self.level(&asked);
         Part {
             written,
             asked,
             level,
+            binders,
         }
+    }
+
+    /// The arguments of an expression, given what the archive is asked of each.
+    fn parts(&self, whole: &Part, asked: Vec<Expr>) -> Vec<Part> {
+        let written = arguments(&whole.written);
+        let binders = whole.binders_before(&written);
+        let each = written.into_iter().zip(asked).zip(binders);
+        each.map(|((written, asked), binders)| self.part(written, asked, binders))
+            .collect()
     }
 
     /// The arguments of an expression, with something for the variable if it is a binder: a
@@ -128,10 +162,7 @@ impl Place<'_> {
             }
             _ => {}
         }
-        let written = arguments(&whole.written).into_iter();
-        let both = written.zip(asked);
-        both.map(|(written, asked)| self.part(written, asked))
-            .collect()
+        self.parts(whole, asked)
     }
 
     /// The level of a call of some of the arguments, a literal being put for every other.
@@ -212,10 +243,7 @@ impl Place<'_> {
     fn of_junction(&self, whole: &Part) -> Part {
         let mut here = whole.clone();
         while here.head() == Token::BuiltIn(codes::AND) {
-            let written = arguments(&here.written).into_iter();
-            let parts = written
-                .zip(arguments(&here.asked))
-                .map(|(written, asked)| self.part(written, asked));
+            let parts = self.parts(&here, arguments(&here.asked)).into_iter();
             let mut high = parts.filter(|part| part.level == whole.level);
             match (high.next(), high.next()) {
                 (Some(part), None) => here = part,
@@ -229,6 +257,10 @@ impl Place<'_> {
 /// The places of the arguments that have a level.
 fn at_level(arguments: &[Part], level: u8) -> impl Iterator<Item = usize> + '_ {
     (0..arguments.len()).filter(move |&at| arguments[at].level == Some(level))
+}
+
+fn binds(token: &Token) -> bool {
+    matches!(token, Token::BuiltIn(code) if codes::binds(*code))
 }
 
 /// The arguments of an expression's first token.
@@ -258,7 +290,7 @@ fn replaced(body: &Expr, instead: Token) -> Expr {
     for &token in body.tokens() {
         let depth = waiting.pop().unwrap_or(0);
         let count = token.arguments().unwrap_or(0);
-        let binds = matches!(token, Token::BuiltIn(code) if codes::binds(code));
+        let binds = binds(&token);
         for place in (0..count).rev() {
             let inside = binds && place + 1 == count;
             waiting.push(depth.saturating_add(u16::from(inside)));

@@ -127,7 +127,7 @@ fn the_shape_of_json() {
 }
 
 /// A text, the number and place of its refusal, and pieces of what is said.
-const TEXTS: [(&str, u32, u32, &[&str]); 47] = [
+const TEXTS: [(&str, u32, u32, &[&str]); 51] = [
     ("---- MODULE M ----\nVARIABLE x\n", 4, 2, &["ends inside module M"]),
     (
         "---- MODULE M ----\n---- MODULE N ----\n",
@@ -247,7 +247,7 @@ const TEXTS: [(&str, u32, u32, &[&str]); 47] = [
         "---- MODULE M ----\nCONSTANT K(_)\n====\n---- MODULE N ----\nVARIABLE y\nINSTANCE M WITH K(a) <- a + y\n",
         14,
         5,
-        &["stands for the operator K of module M", "an operator takes a substitute of level 0"],
+        &["a + y, level 1 (state), stands for the operator K of module M", "an operator takes a substitute of level 0"],
     ),
     (
         "---- MODULE M ----\nCONSTANT c, d\nVARIABLE x\n====\n---- MODULE N ----\nCONSTANT c\nVARIABLES x, d\nINSTANCE M\n",
@@ -377,7 +377,7 @@ const TEXTS: [(&str, u32, u32, &[&str]); 47] = [
         12,
         4,
         &[
-            "Op2 has level 2 with its argument at level 0, and an expression over a bound variable has level 3",
+            "Op2 has level 2 with its argument at level 0, and [](x = i) has level 3",
         ],
     ),
     (
@@ -409,7 +409,43 @@ const TEXTS: [(&str, u32, u32, &[&str]); 47] = [
         "---- MODULE M ----\nVARIABLE x\nTHEOREM \\E i \\in x : x' = i /\\ []x\n",
         12,
         2,
-        &["an expression over a bound variable has level 2, []x has level 3"],
+        &["mix: x' = i has level 2, []x has level 3", "[][x' = i]_v is temporal"],
+    ),
+    (
+        "---- MODULE M ----\nVARIABLE x\nD(first) == (\\E i : i = x) /\\ (\\E j \\in (CHOOSE k : k = x) : first = j'')\n",
+        12,
+        2,
+        &[
+            "j'' is not level-correct",
+            "^^^ its argument has level 2 (transition)",
+        ],
+    ),
+    (
+        "---- MODULE M ----\nVARIABLE x\nTHEOREM (\\E i : i = x) /\\ (\\E j : x' = j) /\\ [](\\A k : k = x)\n",
+        12,
+        2,
+        &[
+            "mix: \\E j : x' = j has level 2, [](\\A k : k = x) has level 3",
+            "^^^^^^^^^^^^^     ---------------- [](\\A k : k = x) has level 3",
+            "[][\\E j : x' = j]_v is temporal",
+        ],
+    ),
+    (
+        "---- MODULE M ----\nCONSTANTS a, b, K(_)\n====\n---- MODULE N ----\nVARIABLE y\nI(p) == INSTANCE M WITH a <- (\\E i : i = y), K(q) <- (\\E j : q + j = p), b <- (\\A k : k = p + y') /\\ (\\E l \\in p : [](l = y))\n",
+        12,
+        7,
+        &[
+            "mix: \\A k : k = p + y' has level 2, \\E l \\in p : [](l = y) has level 3",
+        ],
+    ),
+    (
+        "---- MODULE M ----\nCONSTANT c, K(_)\nVARIABLE x\n====\n---- MODULE N ----\nVARIABLE y\nI(inst) == INSTANCE M WITH c <- (\\A i : i = inst), K(own) <- own' + inst, x <- 1\n",
+        14,
+        7,
+        &[
+            "own' + inst, level 2 (transition), stands for the operator K",
+            "own' + inst has level 2 (transition), and K takes level 0",
+        ],
     ),
     (
         "---- MODULE M ----\nCONSTANT c\n====\n---- MODULE N ----\nVARIABLE y\nINSTANCE M WITH c <- y' /\\ []y\n",
@@ -437,7 +473,8 @@ const TEXTS: [(&str, u32, u32, &[&str]); 47] = [
         21,
         8,
         &[
-            "for a has level 2, b has level 3",
+            "y' + p for a has level 2, b has level 3",
+            "y' + p has level 2 (transition)",
             "b stands for itself, and has level 3 (temporal)",
             "if b stands for itself by accident, write a substitution for it",
         ],

@@ -55,7 +55,7 @@ pub fn find_asked(input: &Input, outline: &Outline, question: &Question, refusal
 pub fn find_level(input: &Input, outline: &Outline, question: &Question) -> Option<Told> {
     let (asked, place) = question.as_field(input, outline)?;
     let site = Site {
-        given: &question.parameters,
+        given: Some(&question.parameters),
         ..Site::new(&asked, place)?
     };
     let finding = alone(site.not_level_correct()?, place);

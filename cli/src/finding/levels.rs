@@ -1,12 +1,13 @@
 //! Causes 12 to 14: the levels involved, as the archive gives them.
 
+use super::writing::{piece, Slot};
 use super::{Finding, Focus, Site};
 use crate::causes::{self, level};
-use crate::innermost::{innermost, Innermost, Part};
+use crate::innermost::{innermost, Innermost};
 use crate::outline::{Declaration, Module};
 use crate::probe;
-use crate::question;
-use notation::{Expr, Field, File, Token};
+use crate::question::Parameter;
+use notation::{Expr, Field, Token};
 
 /// What stands in a declared name's place.
 pub(super) struct Substitute {
@@ -19,6 +20,13 @@ pub(super) struct Substitute {
 }
 
 impl Substitute {
+    pub(super) fn slot(&self) -> Slot {
+        Slot {
+            parameters: self.parameters,
+            substitution: self.written,
+        }
+    }
+
     /// With its parameters at 0.
     pub(super) fn level(&self, before: &[Field]) -> Option<u8> {
         let levels = vec![0; usize::from(self.parameters)];
@@ -31,13 +39,15 @@ impl Site<'_> {
         match self.field {
             Field::Definition {
                 parameters, body, ..
-            } => self.innermost(*parameters, body),
-            Field::Assume { formula } | Field::Theorem { formula } => self.innermost(0, formula),
+            } => self.innermost(Slot::only(*parameters), body),
+            Field::Assume { formula } | Field::Theorem { formula } => {
+                self.innermost(Slot::only(0), formula)
+            }
             Field::Instance { module, .. } => {
                 let instanced = self.outline.ended(*module)?;
                 let substitute = self.faulty(instanced, 12)?;
                 let name = self.operator(substitute.declared.name);
-                let inner = self.innermost(substitute.parameters, &substitute.expression);
+                let inner = self.innermost(substitute.slot(), &substitute.expression);
                 let mut finding =
                     Finding::new(format!("the substitute of {name} has {}", level(4)));
                 finding = self.at(finding, &substitute, level(4));
@@ -52,36 +62,39 @@ impl Site<'_> {
     }
 
     /// The innermost expression that is not level-correct.
-    fn innermost(&self, parameters: u8, body: &Expr) -> Option<Finding> {
-        let inner = innermost(self.before, &self.levels(parameters), body)?;
+    fn innermost(&self, slot: Slot, body: &Expr) -> Option<Finding> {
+        let inner = innermost(self.before, &self.levels(slot), body)?;
         let finding = match &inner.mixed {
-            Some(mixed) => self.mixed_terms(parameters, &inner, mixed),
-            None => self.level_not_taken(parameters, &inner),
+            Some(mixed) => self.mixed_terms(slot, &inner, mixed),
+            None => self.level_not_taken(slot, &inner),
         };
-        match self.taken_at(parameters) {
+        match self.taken_at(slot) {
             None => Some(finding),
             Some(taken) => Some(finding.note(taken)),
         }
     }
 
     /// The levels at which parameters are taken: those that a query gives, or 0.
-    fn levels(&self, parameters: u8) -> Vec<u8> {
-        let given = |place: usize| self.given.get(place).map_or(0, |each| each.level);
-        (0..usize::from(parameters)).map(given).collect()
-    }
-
-    fn taken_at(&self, parameters: u8) -> Option<String> {
-        let given = self.given.iter();
-        let given = given.map(|each| format!("{} at {}", each.name, level(each.level)));
-        let given: Vec<String> = given.collect();
-        match parameters {
-            0 => None,
-            _ if given.is_empty() => Some("parameters are taken at level 0".to_string()),
-            _ => Some(format!("given: {}", given.join(", "))),
+    fn levels(&self, slot: Slot) -> Vec<u8> {
+        match self.given {
+            Some(given) => given.iter().map(|each| each.level).collect(),
+            None => vec![0; usize::from(slot.parameters)],
         }
     }
 
-    fn level_not_taken(&self, parameters: u8, inner: &Innermost) -> Finding {
+    fn taken_at(&self, slot: Slot) -> Option<String> {
+        if slot.parameters == 0 {
+            return None;
+        }
+        let Some(given) = self.given else {
+            return Some("parameters are taken at level 0".to_string());
+        };
+        let each = |each: &Parameter| format!("{} at {}", each.name, level(each.level));
+        let each: Vec<String> = given.iter().map(each).collect();
+        Some(format!("given: {}", each.join(", ")))
+    }
+
+    fn level_not_taken(&self, slot: Slot, inner: &Innermost) -> Finding {
         let arguments = &inner.arguments;
         let levels: Vec<u8> = arguments.iter().filter_map(|each| each.level).collect();
         let text = match levels[..] {
@@ -98,7 +111,7 @@ impl Site<'_> {
                 .called(head)
                 .map(|called| format!("the card of {called} has level 4 there")),
         };
-        let (message, focus) = match self.written_part(parameters, &inner.whole) {
+        let (message, focus) = match self.written_part(slot, &inner.whole) {
             Some(written) => (
                 format!("{written} is not level-correct"),
                 piece(&inner.whole, &written),
@@ -126,40 +139,6 @@ impl Site<'_> {
             )),
             _ => None,
         }
-    }
-
-    /// A part of this field's expression as it would be written there.
-    pub(super) fn written_part(&self, parameters: u8, part: &Part) -> Option<String> {
-        self.written(parameters, part.closed()?)
-    }
-
-    /// An expression of this field as it would be written there.
-    pub(super) fn written(&self, parameters: u8, expression: &Expr) -> Option<String> {
-        let names = &self.input.file.names;
-        if !self.given.is_empty() {
-            return Some(question::written(expression, names, self.given));
-        }
-        if matches!(self.field, Field::Instance { .. }) {
-            return Some(notation::print_expression(expression, names, parameters));
-        }
-        let mut fields = self.before.to_vec();
-        fields.push(match self.field {
-            Field::Definition { name, .. } => Field::Definition {
-                name: *name,
-                parameters,
-                body: expression.clone(),
-            },
-            _ => Field::Theorem {
-                formula: expression.clone(),
-            },
-        });
-        let names = names.clone();
-        let text = notation::print(&File { fields, names });
-        let line = text.trim_end().rsplit('\n').next()?;
-        let line = line
-            .strip_prefix("THEOREM ")
-            .or_else(|| Some(line.split_once(" == ")?.1))?;
-        Some(line.to_string())
     }
 
     pub(super) fn assume_level(&self) -> Option<Finding> {
@@ -248,7 +227,7 @@ impl Site<'_> {
             Declaration { arguments: 1.., .. } => ("operator", "level 0"),
             _ => ("constant", "level 0"),
         };
-        let written = self.written(substitute.parameters, &substitute.expression)?;
+        let written = self.written(substitute.slot(), &substitute.expression)?;
         let message = match self.variable(&substitute.expression) {
             Some(_) => format!("the variable {written} stands for the {kind} {name} of {called}"),
             None => format!("{written}, {found}, stands for the {kind} {name} of {called}"),
@@ -304,14 +283,6 @@ impl Site<'_> {
         finding.note(format!(
             "module {called} {reason}, so its constants may be replaced by constants only"
         ))
-    }
-}
-
-/// A part of the field's text; what is one word is looked for as a word.
-pub(super) fn piece(part: &Part, written: &str) -> Focus {
-    match part.alone() {
-        true => Focus::Word(written.to_string()),
-        false => Focus::Piece(written.to_string()),
     }
 }
 

@@ -1,6 +1,7 @@
 //! An action beside a temporal formula: in an expression (cause 12), among substitutes (cause 21).
 
-use super::levels::{piece, Substitute};
+use super::levels::Substitute;
+use super::writing::{piece, Slot};
 use super::{Finding, Site};
 use crate::causes::level;
 use crate::innermost::{InBody, Innermost, Mixed, Part};
@@ -12,21 +13,21 @@ const ANGLE: u8 = 116;
 const DO_NOT_MIX: &str = "action and temporal do not mix";
 const WHY: &str = "an action is true or false of a step, a temporal formula of a whole behaviour";
 
-/// A part whose text is not known.
+/// A part of a query whose text is not known.
 const UNWRITTEN: &str = "an expression over a bound variable";
 
 impl Site<'_> {
     /// An expression with an action and a temporal formula in it.
-    pub(super) fn mixed_terms(&self, parameters: u8, inner: &Innermost, mixed: &Mixed) -> Finding {
+    pub(super) fn mixed_terms(&self, slot: Slot, inner: &Innermost, mixed: &Mixed) -> Finding {
         match mixed {
-            Mixed::Arguments(mixed) => self.mixed_arguments(parameters, &inner.whole, mixed),
-            Mixed::Body(mixed) => self.mixed_in_body(parameters, inner, mixed),
+            Mixed::Arguments(mixed) => self.mixed_arguments(slot, &inner.whole, mixed),
+            Mixed::Body(mixed) => self.mixed_in_body(slot, inner, mixed),
         }
     }
 
-    fn mixed_arguments(&self, parameters: u8, whole: &Part, mixed: &[Part; 2]) -> Finding {
+    fn mixed_arguments(&self, slot: Slot, whole: &Part, mixed: &[Part; 2]) -> Finding {
         let [action, temporal] = mixed;
-        let written = [action, temporal].map(|part| self.written_part(parameters, part));
+        let written = [action, temporal].map(|part| self.written_part(slot, part));
         let [first, second] =
             [&written[0], &written[1]].map(|each| each.as_deref().unwrap_or(UNWRITTEN));
         let within = match self.called(whole.head()) {
@@ -48,10 +49,10 @@ impl Site<'_> {
     }
 
     /// A call of an operator whose body puts an argument beside what does not mix with it.
-    fn mixed_in_body(&self, parameters: u8, inner: &Innermost, mixed: &InBody) -> Finding {
+    fn mixed_in_body(&self, slot: Slot, inner: &Innermost, mixed: &InBody) -> Finding {
         let head = inner.whole.head();
         let called = self.called(head).unwrap_or_default();
-        let written = self.written_part(parameters, &mixed.argument);
+        let written = self.written_part(slot, &mixed.argument);
         let which = which(&mixed.places, inner.arguments.len());
         let own = |level: String| format!("{called} has {level} with its {which} at level 0");
         let (given, beside) = match mixed.without {
@@ -104,7 +105,7 @@ impl Site<'_> {
         };
         let (action, temporal) = (at(2)?, at(3)?);
         let called = format!("module {}", self.input.module(*module));
-        let written = |each: &Substitute| self.written(each.parameters, &each.expression);
+        let written = |each: &Substitute| self.written(each.slot(), &each.expression);
         let (first, second) = (written(action)?, written(temporal)?);
         let told = |each: &Substitute, written: &str| match each.written {
             Some(_) => format!("{written} for {}", self.operator(each.declared.name)),

@@ -8,6 +8,7 @@ mod levels;
 mod limits;
 mod mixing;
 mod names;
+mod writing;
 
 pub use asked::{find_asked, find_level, no_definition, Told};
 
@@ -103,8 +104,8 @@ struct Site<'i> {
     before: &'i [Field],
     field: &'i Field,
     place: usize,
-    /// The parameters of a query; none of a file's field, whose parameters are taken at level 0.
-    given: &'i [Parameter],
+    /// The parameters of a query. Those of a file's field are taken at level 0.
+    given: Option<&'i [Parameter]>,
 }
 
 /// Puts a refusal of a file into words.
@@ -138,7 +139,7 @@ impl<'i> Site<'i> {
             before,
             field,
             place,
-            given: &[],
+            given: None,
         })
     }
 
