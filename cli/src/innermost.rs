@@ -16,11 +16,6 @@ pub struct Part {
 }
 
 impl Part {
-    /// The expression, if it holds no variable of a binder around it.
-    pub fn closed(&self) -> Option<&Expr> {
-        (self.written == self.asked).then_some(&self.written)
-    }
-
     /// Whether it is a name, a parameter or the like by itself.
     pub fn alone(&self) -> bool {
         self.written.tokens().len() == 1

@@ -93,11 +93,16 @@ impl Question {
         let place = outline.ended(self.module)?.last?;
         let body = self.expression.clone().ok()?;
         let mut fields = input.file.fields[..place].to_vec();
+        let name = probe::unused(&input.file.fields, &body)?;
         fields.push(Field::Definition {
-            name: probe::unused(&input.file.fields, &body)?,
+            name,
             parameters: u8::try_from(self.parameters.len()).ok()?,
             body,
         });
+        let plain = File {
+            fields,
+            names: input.file.names.clone(),
+        };
         let asked = Input {
             name: NAME.to_string(),
             called: NAME.to_string(),
@@ -105,14 +110,32 @@ impl Question {
             form: Form::Text,
             bytes: Vec::new(),
             offsets: Vec::new(),
-            file: File {
-                fields,
-                names: input.file.names.clone(),
-            },
+            file: self.spelled(&plain, name).unwrap_or(plain),
             fault: None,
             source: Source::of_field(self.text.clone(), place),
         };
         Some((asked, place))
+    }
+
+    /// A file that ends with this expression as a definition, with the spellings that the
+    /// expression's text has for parameters and bound variables: they are read from a text of it.
+    fn spelled(&self, file: &File, name: u16) -> Option<File> {
+        let mut word = "Asked".to_string();
+        while file.names.number(Space::Operators, &word).is_some() {
+            word.push('_');
+        }
+        let mut named = file.clone();
+        named.names.set(Space::Operators, name, &word).ok()?;
+        let text = notation::print(&named);
+        let (before, _) = text.trim_end().rsplit_once('\n')?;
+        let words: Vec<&str> = self.parameters.iter().map(|each| &*each.name).collect();
+        let parameters = match words.is_empty() {
+            true => String::new(),
+            false => format!("({})", words.join(", ")),
+        };
+        let text = format!("{before}\n{word}{parameters} == {}\n", self.text);
+        let read = notation::parse(&text).ok()?;
+        (read.fields == file.fields).then_some(read)
     }
 }
 

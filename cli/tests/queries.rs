@@ -102,6 +102,24 @@ fn reasons_of_4() {
             ],
         ),
         (
+            "(\\A k : k = p) /\\ (\\E i : i' = p /\\ [](i = q))",
+            &["p=0", "q=1"],
+            &[],
+            &[
+                "mix: i' = p has level 2, [](i = q) has level 3",
+                "^^^^^^    --------- [](i = q) has level 3 (temporal)",
+            ],
+        ),
+        (
+            "\\EE z : z'",
+            &[],
+            &[],
+            &[
+                "\\EE z : z' is not level-correct",
+                "^^^^^^^^^^ its argument has level 2",
+            ],
+        ),
+        (
             "Level0 + p",
             &["p=4"],
             &[],

@@ -13,7 +13,7 @@ const ANGLE: u8 = 116;
 const DO_NOT_MIX: &str = "action and temporal do not mix";
 const WHY: &str = "an action is true or false of a step, a temporal formula of a whole behaviour";
 
-/// A part of a query whose text is not known.
+/// A part whose text is not known.
 const UNWRITTEN: &str = "an expression over a bound variable";
 
 impl Site<'_> {

@@ -2,7 +2,6 @@
 
 use super::{Focus, Site};
 use crate::innermost::Part;
-use crate::question;
 use notation::{codes, Expr, ExprFault, Field, File, Token};
 
 /// One of the field's expressions.
@@ -28,10 +27,9 @@ impl Site<'_> {
     /// An expression in a slot, as it would be written there.
     pub(super) fn written(&self, slot: Slot, expression: &Expr) -> Option<String> {
         let names = &self.input.file.names;
-        match (self.given, self.field, slot.substitution) {
-            (Some(given), ..) => Some(question::written(expression, names, given)),
+        match (self.field, slot.substitution) {
             // A name that stands for itself is not written.
-            (None, Field::Instance { .. }, None) => {
+            (Field::Instance { .. }, None) => {
                 let written = notation::print_expression(expression, names, slot.parameters);
                 Some(written)
             }
@@ -44,9 +42,6 @@ impl Site<'_> {
     /// The spellings of bound variables are kept by the order of their binders. So the part is
     /// printed after as many binders as stand before it, and under those that it stands under.
     pub(super) fn written_part(&self, slot: Slot, part: &Part) -> Option<String> {
-        if self.given.is_some() {
-            return self.written(slot, part.closed()?);
-        }
         let framed = |inner: Expr| self.printed(slot, framed(part.binders(), inner).ok()?);
         let closing = ")".repeat(part.binders().iter().filter(|around| !**around).count());
         let frame = framed(literal().ok()?)?;
