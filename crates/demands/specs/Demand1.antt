@@ -6,7 +6,7 @@
 -- That it takes all and stops: the contracts of the archive have no premise, and a proved function ends (native stack apart: docs/PROOF, what is assumed). So every
 -- field speaks of every file, every memory and output lent, and every query. Files, expressions and levels are lent for reading only.
 use mathlib.Core.Bool.{cond}
-use mathlib.Core.List.{List, [], _∷_}
+use mathlib.Core.List.{List, [], _++_, _∷_}
 use mathlib.Core.Path.{_≡_}
 use lib.Dec.{eqb, ltb}
 use lib.ListN.{getD, length}
@@ -15,7 +15,7 @@ use Rattle.demands.specs.Archive.{Enough, alikeLeaves, alikeTells, bodyL
 use Rattle.demands.specs.Replies.{AlikeReplied, BodyReplied, CheckReplied, ExpansionReplied, ExpansionWritten, LevelReplied}
 use Rattle.laws.specs.Cards.{entryAt}
 use Rattle.laws.specs.Lawful.{Obeys}
-use Rattle.laws.specs.Queries.{AlikeRefused, BodyRefused, ExpansionRefused, LevelRefused}
+use Rattle.laws.specs.Queries.{AlikeRefused, BodyRefused, ExpansionRefused, LevelRefused, expressionNumbers}
 use Rattle.laws.specs.Refused.{FileRefused, OneOf, fileNumbers}
 use Rattle.limits.specs.Limits.{cardBytes, cardMemoryBytes}
 use Rattle.rules.specs.Run.{Outcome, refusal, result}
@@ -32,8 +32,8 @@ pub data OneReply {A : Type 0} (file lent : List ℕ) (Full : A → Type 0) (num
       → Own (stateOf file) (length (o .fields)) c p → OneReply file lent Full numbers Own reply
 
 -- THE CARD MEMORY after a call, byte by byte, by what a check of the file tells. Accepted with k definitions: "A card is 125 bytes at 125 times the definition's
--- number"; "Acceptance changes no byte past the last card". Refused: 1 leaves all as it was; 2 to 16 and 21 "set the first 32,000 bytes to 0; bytes beyond stay". "A query's
--- own refusals, like its replies, leave an accepted file's cards filled."
+-- number"; "Acceptance changes no byte past the last card". Refused: 1 leaves all as it was; 2 to 16, "and any
+-- cause of the file added later", "set the first 32,000 bytes to 0; bytes beyond stay". "A query's own refusals, like its replies, leave an accepted file's cards filled."
 abbrev pub byteLeft : List ℕ → List ℕ → Outcome ℕ → ℕ → ℕ
 byteLeft file lent (result k) i = cond (ltb i (cardBytes * k)) (entryAt (stateOf file) (i / cardBytes) (i % cardBytes)) (getD lent i 0)
 byteLeft file lent (refusal c p) i = cond (eqb c 1) (getD lent i 0) (cond (ltb i cardMemoryBytes) 0 (getD lent i 0))
@@ -53,11 +53,11 @@ pub record Demand1 : Type 0 where
   -- a check: the number of definitions, or a refusal of the file
   pub check : (file lent : List ℕ) → OneReply file lent (CheckReplied file lent) [] (λ s fields c p. ⊥) (checkTells file lent)
   pub level : (file lent : List ℕ) (m : ℕ) (levels bytes : List ℕ)
-      → OneReply file lent (LevelReplied file lent m levels bytes) (3 ∷ 5 ∷ 9 ∷ 10 ∷ 17 ∷ []) (LevelRefused m levels bytes) (levelTells file lent m levels bytes)
+      → OneReply file lent (LevelReplied file lent m levels bytes) (expressionNumbers ++ (17 ∷ [])) (LevelRefused m levels bytes) (levelTells file lent m levels bytes)
   pub alike : (file lent : List ℕ) (g h : ℕ) → OneReply file lent (AlikeReplied file lent g h) (17 ∷ []) (AlikeRefused g h) (alikeTells file lent g h)
   pub body : (file lent : List ℕ) (g : ℕ) → OneReply file lent (BodyReplied file lent g) (17 ∷ []) (BodyRefused g) (bodyTells file lent g)
   pub expansion : (file lent : List ℕ) (m n : ℕ) (bytes output : List ℕ)
-      → OneReply file lent (ExpansionReplied file lent m n bytes output) (3 ∷ 5 ∷ 9 ∷ 10 ∷ 17 ∷ 18 ∷ []) (ExpansionRefused m n bytes (length output))
+      → OneReply file lent (ExpansionReplied file lent m n bytes output) (expressionNumbers ++ (17 ∷ 18 ∷ [])) (ExpansionRefused m n bytes (length output))
       (expandTells file lent m n bytes output)
   -- the card memory after each
   pub check-memory : (file lent : List ℕ) → MemoryLeft file lent (checkLeaves file lent)

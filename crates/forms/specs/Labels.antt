@@ -1,8 +1,8 @@
 -- Levels as bits, and labels. A level is three bits: 1 where it is at least 1, 2 where it has a 2 in it, 4 where it has a 3 in it; 4, which is
 -- not level-correct, has all three. The highest of two levels (L5: of a 2 and a 3, 4) is then the union of their bits.
 -- A label says what a place in a term makes of a level there: bit 1, the level counts; bit 2, it is refused if it has a 2 in it; bit 4, it is
--- refused if it has a 3 in it. What is refused makes 4. The masks "0 1", "0 1 2", "0 1 3" are the labels 6, 4, 2, "at any level" is 1; with no
--- bit the place is dropped.
+-- refused if it has a 3 in it. What is refused makes 4. The masks `upTo1`, `upTo2`, `notTransition` are the labels 6, 4, 2, "at any level" is 1;
+-- with no bit the place is dropped.
 use mathlib.Core.Bool.{cond}
 use mathlib.Core.List.{[], _∷_}
 use mathlib.Core.Path.{_≡_}

@@ -185,14 +185,15 @@ held fs f = collect (λ c. cond (c .1) (some (c .0)) none) (causes (after start 
 abbrev open7 : List Field → List Field
 open7 M = M ++ (begin-module 7 ∷ declare-variable 2 ∷ [])
 
--- Only "of a constant module": 14 alone where it has a variable, or a definition above 0.
+-- Only "of a constant module": 14 alone where it has a variable, or a definition above 0. 15 holds beside 21 where a definition uses both: D == 3 + 4.
 pub which-hold :
     held (open7 twoConstants) (instance 8 0 1 ((5, num 0) ∷ (3, x ′) ∷ (4, box x) ∷ []))
     ∷ held (open7 twoConstants) (instance 8 0 1 ((5, x) ∷ (3, x ′) ∷ (4, box x) ∷ []))
     ∷ held (open7 (moduleOf 1 (declare-variable 9 ∷ declare-constant 3 0 ∷ declare-constant 4 0 ∷ []))) (instance 8 0 1 ((9, x) ∷ (3, x ′) ∷ (4, box x) ∷ []))
     ∷ held (open7 (moduleOf 1 (declare-constant 3 0 ∷ declare-constant 4 0 ∷ definition 6 0 (num 0 ′) ∷ []))) (instance 8 0 1 ((3, x ′) ∷ (4, box x) ∷ []))
     ∷ held (open7 (moduleOf 1 (declare-constant 3 0 ∷ declare-constant 4 0 ∷ definition 6 0 (num 0) ∷ []))) (instance 8 0 1 ((3, x ′) ∷ (4, box x) ∷ []))
+    ∷ held (open7 (moduleOf 1 (declare-constant 3 0 ∷ declare-constant 4 0 ∷ definition 6 0 (op 3 plus op 4) ∷ []))) (instance 8 0 1 ((3, x ′) ∷ (4, box x) ∷ []))
     ∷ []
-    ≡ (21 ∷ []) ∷ (14 ∷ 21 ∷ []) ∷ (14 ∷ []) ∷ (14 ∷ []) ∷ (21 ∷ []) ∷ []
+    ≡ (21 ∷ []) ∷ (14 ∷ 21 ∷ []) ∷ (14 ∷ []) ∷ (14 ∷ []) ∷ (21 ∷ []) ∷ (21 ∷ 15 ∷ []) ∷ []
 unfolding row
 which-hold = refl

@@ -93,7 +93,7 @@ pub record NearestMask : Type 0 where
   pub each-row : All OwnAndMasked table
   -- so of every term, at any levels of its parameters:
   pub nearest-masks : (v : List ℕ) (t : Term) → All IsLevel v → level longWay v t ≡ highest (nodeLevels v [] none t)
-  -- "over all its nodes": a well formed term has one level there for each
+  -- over all its nodes: a well formed term has one level there for each
   pub every-node : (n : ℕ) (v : List ℕ) (t : Term) → WellFormed noDefinitions n 0 t → length (nodeLevels v [] none t) ≡ nodes t
 
 -- WHAT FOLLOWS
