@@ -11,7 +11,7 @@ use lib.Bits.{bitOr, or-zero-r}
 use lib.Dec.{eqb, ltb}
 use lib.ListN.{getD}
 use Rattle.limits.specs.Limits.{maxDefinitions}
-use Rattle.rows.specs.Numbers.{rowNumber}
+use Rattle.rows.specs.Numbers.{formSize, kindSize, rowNumber}
 use Rattle.rows.proofs.Numbers.{row-count, row-inner, row-low, row-none, row-word}
 use Rattle.tokens.specs.Token.{argumentsOf, isToken, writtenOf}
 use Rattle.tokens.specs.declared.Token.{Token}
@@ -151,22 +151,22 @@ module _ (N : Names) (at bits l f x : ℕ) (r : Step) where
 
 -- a built-in's form is its row's
 module _ (code bits l f x h : ℕ) (eh : h ≡ rowNumber code) where
-  bound-low : h / 16384 < 3 → innerBits (h / 16384) bits ≤ bits * 2 + 1
+  bound-low : h / kindSize < 3 → innerBits (h / kindSize) bits ≤ bits * 2 + 1
   unfolding innerBits
-  bound-low k = go (eqb (h / 16384) 0)
+  bound-low k = go (eqb (h / kindSize) 0)
     where
-      go : (b : Bool) → cond b bits (bits * 2 + (h / 16384 - 1)) ≤ bits * 2 + 1
+      go : (b : Bool) → cond b bits (bits * 2 + (h / kindSize - 1)) ≤ bits * 2 + 1
       go true = omega arith
       go false = omega arith
 
-  row-says : (labels : ℕ) → labels ≡ h % 4096 / 8 / 8 ^ 0 → (N : Names) (at : ℕ) → Says N (BuiltIn code) at bits (λ v. bitOr (whole (h % 4096)) 0) labels
+  row-says : (labels : ℕ) → labels ≡ h % formSize / 8 / 8 ^ 0 → (N : Names) (at : ℕ) → Says N (BuiltIn code) at bits (λ v. bitOr (whole (h % formSize)) 0) labels
   unfolding Says bitsAt
   row-says labels e N at v ls _ c a =
-      let z : h % 4096 / 8 / 1 ≡ h % 4096 / 8 = omega arith in
+      let z : h % formSize / 8 / 1 ≡ h % formSize / 8 = omega arith in
       row-gives code ls c a ∙ rw (e, z, row-word code h eh, or-zero-r) refl
 
   module _ (r : Step) where
-    pub built-there : (e : ℕ) → h / 16384 < 3 → e ≡ innerBits (h / 16384) bits → Headed (h % 4096) 0 (h / 4096 % 4) e l f x r → Built code bits l f x r
+    pub built-there : (e : ℕ) → h / kindSize < 3 → e ≡ innerBits (h / kindSize) bits → Headed (h % formSize) 0 (h / formSize % 4) e l f x r → Built code bits l f x r
     unfolding innerBits
     built-there e k ee d = record {
       low = rw (d .inner, ee) (bound-low k);
@@ -178,13 +178,13 @@ module _ (code bits l f x h : ℕ) (eh : h ≡ rowNumber code) where
         inner = d .inner ∙ ee ∙ row-inner code h bits eh k;
         low = rw (d .inner, ee) (bound-low k);
         next = d .next;
-        base = λ v. bitOr (whole (h % 4096)) 0;
+        base = λ v. bitOr (whole (h % formSize)) 0;
         form = d .form;
         says = row-says (r .labels) (d .labels) N at;
       };
     }
 
-    pub built-lost : 3 ≤ h / 16384 → (r .ok ≡ false) × (r .inner ≡ bits) → Built code bits l f x r
+    pub built-lost : 3 ≤ h / kindSize → (r .ok ≡ false) × (r .inner ≡ bits) → Built code bits l f x r
     built-lost k (z, e) = record {
       low = omega arith;
       lost = λ _. row-none code h eh k;

@@ -121,7 +121,7 @@ pub fn built_in_step(column: &[u16], code: u8, bits: u64, l: u8, form: u64, next
         return head_step(
             (h % Rows::FORMS) as u64,
             0,
-            (h / Rows::FORMS % 4) as u8,
+            (h / Rows::FORMS % Rows::COUNTS) as u8,
             inner,
             l,
             form,

@@ -9,11 +9,11 @@ use borrow.Author.Tests.{le-ltb, lt-ltb, ne-eqb}
 use lib.Dec.{eqb}
 use Rattle.theory.specs.Level.{Binder, Row, inBody, plain, row, rowBinder, setThenBody, variableLevel}
 use Rattle.rows.specs.Rows.{arityOf, binderNumber, binderOf, boundLevelOf, noCode}
-use Rattle.rows.specs.Numbers.{arityIn, binderIn, binderKind, kindOf, rowNumber, rowWord}
+use Rattle.rows.specs.Numbers.{arityIn, binderIn, binderKind, formSize, kindOf, kindSize, rowNumber, rowWord}
 use Rattle.rows.proofs.Ranges.{part-of}
 
 module _ (c h : ℕ) (e : h ≡ rowNumber c) where
-  pub row-word : h % 4096 ≡ rowWord c
+  pub row-word : h % formSize ≡ rowWord c
   row-word = part-of 0 tt c h e
 
   pub row-arity : (n : ℕ) → n ≡ arityIn h → n ≡ arityOf c
@@ -23,15 +23,15 @@ module _ (c h : ℕ) (e : h ≡ rowNumber c) where
   row-binder n p = p ∙ part-of 2 tt c h e
 
   -- a code exists where its kind is below 3
-  pub row-none : 3 ≤ h / 16384 → arityOf c ≡ noCode
+  pub row-none : 3 ≤ h / kindSize → arityOf c ≡ noCode
   unfolding arityIn
-  row-none k = sym (rw (le-ltb (h / 16384) 3 k) at (part-of 1 tt c h e))
+  row-none k = sym (rw (le-ltb (h / kindSize) 3 k) at (part-of 1 tt c h e))
 
-  pub row-count : h / 16384 < 3 → h / 4096 % 4 ≡ arityOf c
+  pub row-count : h / kindSize < 3 → h / formSize % 4 ≡ arityOf c
   unfolding arityIn
-  row-count k = rw (lt-ltb (h / 16384) 3 k) at (part-of 1 tt c h e)
+  row-count k = rw (lt-ltb (h / kindSize) 3 k) at (part-of 1 tt c h e)
 
-  pub row-low : h / 16384 < 3 → arityOf c < 4
+  pub row-low : h / kindSize < 3 → arityOf c < 4
   row-low k = let p = row-count k in omega arith
 
 -- what is bound, as digits put before others
@@ -48,10 +48,10 @@ by-binder plain bits = refl
 by-binder (inBody l) bits = one-more l 1 bits (λ (z : _≡_ {A = ℕ} 1 0). omega arith)
 by-binder (setThenBody l) bits = one-more l 2 bits (λ (z : _≡_ {A = ℕ} 2 0). omega arith)
 
-pub row-inner : (c h bits : ℕ) → h ≡ rowNumber c → h / 16384 < 3 → bindsBy (h / 16384) (h / 16384 - 1) bits ≡ bindsBy (binderOf c) (boundLevelOf c) bits
+pub row-inner : (c h bits : ℕ) → h ≡ rowNumber c → h / kindSize < 3 → bindsBy (h / kindSize) (h / kindSize - 1) bits ≡ bindsBy (binderOf c) (boundLevelOf c) bits
 unfolding binderOf boundLevelOf
 row-inner c h bits e k = go (row c) (part-of 3 tt c h e)
   where
-    go : (o : Option Row) → h / 16384 ≡ kindOf o → bindsBy (h / 16384) (h / 16384 - 1) bits ≡ bindsBy (binderNumber (rowBinder o)) (variableLevel (rowBinder o)) bits
+    go : (o : Option Row) → h / kindSize ≡ kindOf o → bindsBy (h / kindSize) (h / kindSize - 1) bits ≡ bindsBy (binderNumber (rowBinder o)) (variableLevel (rowBinder o)) bits
     go absent q = absurd (omega arith)
     go (some r) q = rw q (by-binder (r .binder) bits)

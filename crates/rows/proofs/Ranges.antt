@@ -13,8 +13,8 @@ use lib.Dec.{T, ltb, ltb→lt, eqb, eqb→eq}
 use lib.ListN.{getD, length}
 use Rattle.theory.specs.Level.{Row, row, rowBinder}
 use Rattle.theory.specs.Lists.{mapOption}
-use Rattle.rows.specs.Rows.{column, arityNumber, arityOf, binderNumber, binderOf}
-use Rattle.rows.specs.Numbers.{keptRows, arityIn, binderIn, kindOf, wordOf, rowWord, numberOf, rowNumber}
+use Rattle.rows.specs.Rows.{column, arityNumber, arityOf, binderNumber, binderOf, rowCount}
+use Rattle.rows.specs.Numbers.{keptRows, arityIn, binderIn, formSize, kindOf, kindSize, wordOf, rowWord, numberOf, rowNumber}
 use Rattle.rows.proofs.Columns.{no-row, both-left, both-right, below, below-at}
 
 -- the ranges: the first code of each, and how many codes it has; the codes past the last are one too
@@ -36,7 +36,7 @@ oneRow k = below (repeats k) (getD counts k 0)
 
 -- a row's number taken apart as the code does, and what the table says
 abbrev pub parts : ℕ → List ℕ
-parts h = h % 4096 ∷ arityIn h ∷ binderIn h ∷ h / 16384 ∷ []
+parts h = h % formSize ∷ arityIn h ∷ binderIn h ∷ h / kindSize ∷ []
 
 abbrev pub columns : ℕ → List ℕ
 columns c = rowWord c ∷ arityOf c ∷ binderOf c ∷ kindOf (row c) ∷ []
@@ -91,7 +91,7 @@ kept-high c l h =
     let p : c - 116 ≡ 24 + i = omega arith in
     rw p (eqb→eq (getD keptRows (24 + i) 0) (rowNumber (140 + i)) (below-at highKept 2 i (both-right (below lowKept 24) (below highKept 2) kept-right) (omega arith)) ∙ ap rowNumber e)
 
-no-parts : (k c : ℕ) → 142 ≤ c → getD (parts (rowNumber c)) k 0 ≡ getD (columns c) k 0
+no-parts : (k c : ℕ) → rowCount ≤ c → getD (parts (rowNumber c)) k 0 ≡ getD (columns c) k 0
 unfolding rowNumber rowWord arityIn binderIn arityOf binderOf
 no-parts k c h =
     subst⁻¹ (λ (o : Option Row). getD (parts (numberOf o)) k 0 ≡ getD (wordOf o ∷ arityNumber (mapOption (λ r. length (r .takes)) o) ∷ binderNumber (rowBinder o) ∷ kindOf o ∷ []) k 0)

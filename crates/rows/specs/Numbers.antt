@@ -8,7 +8,7 @@ use Prim.Native.Nat.{ℕ, zero, suc, _+_, _*_, _/_, _%_}
 use lib.Dec.{eqb, ltb}
 use lib.ListN.{length, set}
 use Rattle.theory.specs.Level.{Binder, Mask, Result, Row, always, inBody, plain, row, setThenBody, taken, theHighest}
-use Rattle.rows.specs.Rows.{column, noCode}
+use Rattle.rows.specs.Rows.{column, noCode, rowCount}
 
 -- the bits of a level; what is above 4 counts as 4
 abbrev pub coded : ℕ → ℕ
@@ -53,26 +53,35 @@ unfoldable pub rowWord : ℕ → ℕ
 rowWord c = wordOf (row c)
 
 -- twelve bits for the form, two for the argument count, two for what is bound
+abbrev pub formSize : ℕ
+formSize = 4096
+
+abbrev pub kindSize : ℕ
+kindSize = 16384
+
 abbrev pub numberOf : Option Row → ℕ
-numberOf o = wordOf o + 4096 * (countOf o + 4 * kindOf o)
+numberOf o = wordOf o + formSize * countOf o + kindSize * kindOf o
 
 unfoldable pub rowNumber : ℕ → ℕ
 rowNumber c = numberOf (row c)
 
 -- the rows of the codes from 0 to 141
 unfoldable pub rowColumn : List ℕ
-rowColumn = column rowNumber 0 142
+rowColumn = column rowNumber 0 rowCount
 
 -- the rows that are kept: codes 104 to 127, then 140 and 141
+abbrev pub keptCount : ℕ
+keptCount = 26
+
 abbrev pub keptRows : List ℕ
 keptRows = column rowNumber 104 24 ++ column rowNumber 140 2
 
 -- what is read off a row's number: the argument count; and the argument in which a variable is bound, the last
 unfoldable pub arityIn : ℕ → ℕ
-arityIn h = cond (ltb (h / 16384) 3) (h / 4096 % 4) noCode
+arityIn h = cond (ltb (h / kindSize) 3) (h / formSize % 4) noCode
 
 unfoldable pub binderIn : ℕ → ℕ
-binderIn h = cond (eqb (h / 16384) 0) 0 (h / 4096 % 4)
+binderIn h = cond (eqb (h / kindSize) 0) 0 (h / formSize % 4)
 
 -- a list with f i, f (i + 1) and so on at the n places from i on
 abbrev pub putIn : (ℕ → ℕ) → ℕ → ℕ → List ℕ → List ℕ
