@@ -1,4 +1,4 @@
-(* Module N of paper 01. Since L5 of paper 02 an action and a temporal formula do not mix: D is 4. *)
+(* Module N of paper 01: in D an action and a temporal formula stand side by side, so D is 4. *)
 (* Refused with 12 at D; the instance is not looked at.                                             *)
 
 ---- MODULE N ----
