@@ -1,9 +1,10 @@
 //! Times two archives against each other: a few calls of one and as many of the other in turn, in
 //! the same process and memory, so that what else the machine does falls on both.
 //!
-//! `versus [--only LABEL] [--samples NUMBER]`: the families whose labels begin so.
+//! `versus [--only LABEL] [--samples NUMBER] [--reference]`: the families whose labels begin so;
+//! with the reference beside them, in its turn too.
 
-use differential::checker::Checker;
+use differential::checker::{Checker, Reference};
 use differential::families::{self, Family, Memory};
 use differential::proved::Proved;
 use std::process::ExitCode;
@@ -22,6 +23,9 @@ mod before {
 
 const BEFORE: &dyn Checker = &before::checker::Proved;
 const NOW: &dyn Checker = &Proved;
+const REFERENCE: &dyn Checker = &Reference;
+
+const USAGE: &str = "usage: versus [--only LABEL] [--samples NUMBER] [--reference]";
 
 /// A sample is as many calls as take this long at least.
 const SAMPLE: Duration = Duration::from_millis(2);
@@ -54,38 +58,69 @@ fn quarters(mut numbers: Vec<f64>) -> [f64; 3] {
     [at(1), at(2), at(3)]
 }
 
-/// One line of the table, and the ratio's middle.
-fn compare(family: &Family, samples: usize) -> f64 {
-    let mut memory = Memory::default();
-    let calls = calls_of(family, &mut memory);
-    let (mut was, mut is, mut ratios) = (Vec::new(), Vec::new(), Vec::new());
-    let start = Instant::now();
-    for sample in 0..samples {
-        if sample >= FEW && start.elapsed() > FAMILY {
-            break;
-        }
-        // Now one is the first, now the other.
-        let mut one = |checker| time(checker, family, &mut memory, calls).as_secs_f64();
-        let (before, now) = if sample % 2 == 0 {
-            let before = one(BEFORE);
-            (before, one(NOW))
-        } else {
-            let now = one(NOW);
-            (one(BEFORE), now)
-        };
-        was.push(before / f64::from(calls));
-        is.push(now / f64::from(calls));
-        ratios.push(now / before);
+/// The sides, timed in turn on the same input.
+struct Sides(Vec<&'static dyn Checker>);
+
+impl Sides {
+    fn new(reference: bool) -> Self {
+        let mut sides = vec![BEFORE, NOW];
+        sides.extend(reference.then_some(REFERENCE));
+        Sides(sides)
     }
-    let microseconds = |times| quarters(times)[1] * 1e6;
-    let [low, ratio, high] = quarters(ratios);
-    println!(
-        "{:<66} {:>12.1} {:>12.1} {ratio:>7.3} ({low:.3} to {high:.3})",
-        family.label,
-        microseconds(was),
-        microseconds(is),
-    );
-    ratio
+
+    /// The times of a call on each side, in seconds, sample by sample.
+    fn sampled(&self, family: &Family, samples: usize) -> Vec<Vec<f64>> {
+        let mut memory = Memory::default();
+        let calls = calls_of(family, &mut memory);
+        let mut times = vec![Vec::new(); self.0.len()];
+        let start = Instant::now();
+        for sample in 0..samples {
+            if sample >= FEW && start.elapsed() > FAMILY {
+                break;
+            }
+            // Each is the first in its turn.
+            for turn in 0..self.0.len() {
+                let side = (sample + turn) % self.0.len();
+                let taken = time(self.0[side], family, &mut memory, calls).as_secs_f64();
+                times[side].push(taken / f64::from(calls));
+            }
+        }
+        times
+    }
+
+    fn heading(&self) {
+        print!(
+            "{:<66} {:>12} {:>12} {:>7} (middle half)  ",
+            "microseconds of a call", "before", "now", "ratio"
+        );
+        if self.0.len() > 2 {
+            print!(" {:>12} {:>7} {:>7}", "reference", "before", "now");
+        }
+        println!();
+    }
+
+    /// One line of the table, and the ratio's middle.
+    fn compare(&self, family: &Family, samples: usize) -> f64 {
+        let times = self.sampled(family, samples);
+        let middle = |side: usize| quarters(times[side].clone())[1] * 1e6;
+        let ratios = |side: usize, to: usize| {
+            let pairs = times[side].iter().zip(&times[to]);
+            quarters(pairs.map(|(one, other)| one / other).collect())
+        };
+        let [low, ratio, high] = ratios(1, 0);
+        print!(
+            "{:<66} {:>12.1} {:>12.1} {ratio:>7.3} ({low:.3} to {high:.3})",
+            family.label,
+            middle(0),
+            middle(1),
+        );
+        if times.len() > 2 {
+            let [before, now] = [0, 1].map(|side| ratios(side, 2)[1]);
+            print!(" {:>12.1} {before:>7.2} {now:>7.2}", middle(2));
+        }
+        println!();
+        ratio
+    }
 }
 
 /// Whether both give the same reply, cards and output.
@@ -101,12 +136,15 @@ fn agree(family: &Family) -> bool {
 fn main() -> ExitCode {
     let mut only = String::new();
     let mut samples = 40;
+    let mut reference = false;
     let mut words = std::env::args().skip(1);
     while let Some(word) = words.next() {
-        match (word.as_str(), words.next()) {
-            ("--only", Some(label)) => only = label,
-            ("--samples", Some(number)) => samples = number.parse().expect("a number"),
-            _ => panic!("usage: versus [--only LABEL] [--samples NUMBER]"),
+        let mut value = || words.next().expect(USAGE);
+        match word.as_str() {
+            "--only" => only = value(),
+            "--samples" => samples = value().parse().expect("a number"),
+            "--reference" => reference = true,
+            _ => panic!("{USAGE}"),
         }
     }
     assert!(samples > 0, "no samples");
@@ -116,14 +154,12 @@ fn main() -> ExitCode {
     all.retain(|family| family.label.starts_with(&only));
     assert!(!all.is_empty(), "no family's label begins with {only}");
 
-    println!(
-        "{:<66} {:>12} {:>12} {:>7} (middle half)",
-        "microseconds of a call", "before", "now", "ratio"
-    );
+    let sides = Sides::new(reference);
+    sides.heading();
     let mut ratios = Vec::new();
     let mut differing = 0;
     for family in &all {
-        ratios.push((compare(family, samples), &family.label));
+        ratios.push((sides.compare(family, samples), &family.label));
         if !agree(family) {
             differing += 1;
             println!("    the two differ in reply or memory");
