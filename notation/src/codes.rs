@@ -10,10 +10,12 @@ pub const TEMPORAL_BINDERS: u8 = 140;
 pub const AND: u8 = 49;
 /// Disjunction.
 pub const OR: u8 = 50;
+/// [A]_v.
+pub const SQUARE: u8 = 115;
+/// <<A>>_v.
+pub const ANGLE: u8 = 116;
 
 pub(crate) const PRIME: u8 = 112;
-pub(crate) const SQUARE: u8 = 115;
-pub(crate) const ANGLE: u8 = 116;
 pub(crate) const BOX: u8 = 118;
 pub(crate) const DIAMOND: u8 = 119;
 pub(crate) const BOX_SQUARE: u8 = 120;

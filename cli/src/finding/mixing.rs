@@ -7,9 +7,6 @@ use crate::causes::level;
 use crate::innermost::{InBody, Innermost, Mixed, Part};
 use notation::{codes, Field, Token};
 
-/// The codes of [A]_v and <<A>>_v.
-const SQUARE: u8 = 115;
-const ANGLE: u8 = 116;
 const DO_NOT_MIX: &str = "action and temporal do not mix";
 const WHY: &str = "an action is true or false of a step, a temporal formula of a whole behaviour";
 
@@ -190,8 +187,8 @@ fn made_temporal(action: &Part, written: &str) -> String {
         format!("{sign}{written} is temporal: it says of {steps} what {written} says of one")
     };
     match action.head() {
-        Token::BuiltIn(SQUARE) => says("[]", "every step"),
-        Token::BuiltIn(ANGLE) => says("<>", "some step, sooner or later,"),
+        Token::BuiltIn(codes::SQUARE) => says("[]", "every step"),
+        Token::BuiltIn(codes::ANGLE) => says("<>", "some step, sooner or later,"),
         _ => every_step(written),
     }
 }
