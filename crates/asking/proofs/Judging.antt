@@ -220,6 +220,6 @@ module _ (file : List ℕ) (fs : List Field) (s : State) (rs : List Row) (v : St
     pub asked-level : (ls : List ℕ) (form : ℕ) → TextForm (namesIn (v .names) (v .facts) (codesOf v q) words expr) expr 0 form → length ls ≡ n → n ≤ maxArity
         → All IsLevel ls → levelAt form ls ≡ levelOf s ls (resolve s Γ e)
     asked-level ls form shown size few a =
-        shown .level (tree .0) (0 + length expr) (tree .1) ls (omega arith)
+        shown .level (tree .0) (0 + length expr) (tree .1) ls (omega arith) a
         ∙ own-level table decls (sceneOf itselves words) s (stands .good) (stands .forms) n ls (omega arith) a (tree .0) (resolve s Γ e) made-of-tokens below
         (asked-right .resolved known (tree .0) (0 + length expr) (tree .1)) formed

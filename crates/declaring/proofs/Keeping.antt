@@ -178,7 +178,7 @@ module _ (file : List ℕ) (fs : List Field) (s : State) (rs : List Row) (v : St
           ≡ declaredLevel (getD (decls ++ ((k, n) ∷ [])) (length decls) noDeclaration .0) (getD (decls ++ ((k, n) ∷ [])) (length decls) noDeclaration .1) us
       new us e a =
           let q : getD (decls ++ ((k, n) ∷ [])) (length decls) noDeclaration ≡ (k, n) = getD-append-seam decls (k, n) [] noDeclaration in
-          ap (λ (d : ℕ). sceneOf itselves words′ .declarations d us) counted ∙ put .here .at us (omega (arith, e, ap (λ (z : Kind × ℕ). kindArity (z .0)) q))
+          ap (λ (d : ℕ). sceneOf itselves words′ .declarations d us) counted ∙ put .here .at us (omega (arith, e, ap (λ (z : Kind × ℕ). kindArity (z .0)) q)) a
           ∙ itself-level k n us small (e ∙ ap (λ (z : Kind × ℕ). kindArity (z .0)) q) a ∙ sym (ap (λ (z : Kind × ℕ). declaredLevel (z .0) (z .1) us) q)
 
   -- All stands after the field.

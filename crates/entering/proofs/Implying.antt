@@ -8,9 +8,11 @@ use borrow.Author.Tests.{lt-ltb, le-ltb, le-leb, lt-leb}
 use lib.Bits.{bitOr}
 use lib.ListN.{getD, length}
 use Rattle.limits.specs.Limits.{maxArity, maxDeclarations, maxDefinitions}
-use Rattle.texts.specs.Text.{firsts, named}
+use Rattle.theory.specs.Level.{IsLevel}
+use Rattle.theory.specs.Lists.{All, paramLevels}
+use Rattle.texts.specs.Text.{named}
 use Rattle.forms.specs.declared.Led.{Led}
-use Rattle.forms.specs.Forms.{Gives, Leads, bitsAt, gives, levelAt, paramLevels, width}
+use Rattle.forms.specs.Forms.{Gives, Leads, bitsAt, gives, levelAt, width}
 use Rattle.forms.specs.Labels.{levelOf, whole}
 use Rattle.forms.proofs.Forms.{bits-base, under-all}
 use Rattle.forms.proofs.Laws.{or-assoc, whole-digit}
@@ -72,17 +74,17 @@ module _ (facts : List ℕ) (p q : Operator) (e : p ≡ q) where
 pub implied-gives : (numbers words : List ℕ) (r P p k g w : ℕ) (led all : Led) → g ≡ placeOf numbers r → w ≡ getD words g 0
     → Leads (w % 8) 1 (w / 8) 0 P led → Leads (led .form) 1 (led .labels) (P + p) k all → Gives (all .form) (impliedLevel numbers words r P p k)
 unfolding impliedLevel levelAt bitsAt
-implied-gives numbers words r P p k g w led all eg ew a b = record { at = λ v h. ap levelOf (bits v h) ∙ level v }
+implied-gives numbers words r P p k g w led all eg ew a b = record { at = λ v h low. ap levelOf (bits v h low) ∙ level v }
   where
     row : List ℕ → List ℕ
-    row v = firsts P v ++ paramLevels (P + p) k v
+    row v = paramLevels 0 P v ++ paramLevels (P + p) k v
 
-    bits : (v : List ℕ) → length v ≤ width → bitsAt (all .form) v ≡ bitsAt w (row v)
-    bits v h =
-        let ps = firsts P v in
+    bits : (v : List ℕ) → length v ≤ width → All IsLevel v → bitsAt (all .form) v ≡ bitsAt w (row v)
+    bits v h low =
+        let ps = paramLevels 0 P v in
         let qs = paramLevels (P + p) k v in
-        b .form .at v h
-        ∙ ap₂ bitOr (a .form .at v h ∙ ap₂ bitOr (bits-base (w % 8) v (omega arith) ∙ whole-digit w) (under-all (w / 8) ps))
+        b .form .at v h low
+        ∙ ap₂ bitOr (a .form .at v h low ∙ ap₂ bitOr (bits-base (w % 8) v (omega arith) ∙ whole-digit w) (under-all (w / 8) ps))
         (under-all (led .labels) qs ∙ ap (λ (x : ℕ). gives x qs) (a .labels ∙ ap (λ (n : ℕ). w / 8 / 8 ^ n) (sym (params-length 0 P v))))
         ∙ or-assoc (whole w) (gives (w / 8) ps) (gives (w / 8 / 8 ^ length ps) qs)
         ∙ ap (bitOr (whole w)) (sym (gives-append (w / 8) ps qs))

@@ -12,7 +12,7 @@ use Rattle.theory.specs.Lists.{All}
 use Rattle.theory.specs.Term.{Kind, constant, declaredLevel, kindArity, variable}
 use Rattle.context.specs.Store.{variableKind}
 use Rattle.entering.specs.Itself.{itselfLevel}
-use Rattle.texts.proofs.Levels.{firsts-take}
+use Rattle.texts.proofs.Levels.{params-take}
 
 -- a kind as the arrays keep it
 abbrev pub kindNumber : Kind → ℕ
@@ -23,5 +23,5 @@ kindNumber variable = variableKind
 pub itself-level : (k : Kind) (x : ℕ) (us : List ℕ) → kindArity k ≤ maxArity → length us ≡ kindArity k → All IsLevel us → itselfLevel (kindNumber k) us ≡ declaredLevel k x us
 unfolding itselfLevel
 itself-level (constant n) x us h l a =
-    rw (le-leb n maxArity h) (ap highest (firsts-take n us a (omega arith) ∙ take-all n us (omega arith)))
+    rw (le-leb n maxArity h) (ap highest (params-take n us (omega arith) ∙ take-all n us (omega arith)))
 itself-level variable x us h l a = refl

@@ -10,7 +10,7 @@ use lib.ListN.{drop, getD, length, take}
 use lib.Seq.{getD-drop, length-take-le}
 use Rattle.limits.specs.Limits.{maxDefinitions, maxNesting}
 use Rattle.theory.specs.Level.{IsLevel, bindsIn, incorrect, plain}
-use Rattle.theory.specs.Lists.{All}
+use Rattle.theory.specs.Lists.{All, paramLevels}
 use Rattle.theory.specs.Tree.{_▹_, count, mapTrees, node, ⟨⟩}
 use Rattle.theory.specs.Term.{Arities, Every, Everys, Fits, Head, Kind, Term, Terms, binder, declared, defined, eval, evals, kindArity, longWay}
 use Rattle.theory.specs.Expand.{itself, paramsFrom}
@@ -19,8 +19,8 @@ use Rattle.theory.proofs.Lists.{append-all}
 use Rattle.tokens.specs.Expr.{Expr, Exprs, Placed, exprAt, found}
 use Rattle.tokens.specs.declared.Token.{Token}
 use Rattle.tokens.specs.declared.Token.the-variants.{Parameter, Bound, Name, InstanceOperator, BuiltIn, Literal, NoToken}
-use Rattle.texts.specs.Text.{Declarations, firsts, named, noDeclaration, refHead, shown, tokenHead}
-use Rattle.texts.proofs.Levels.{AllSay, AllsSay, TokenSays, firsts-take, headMeaning, level-shown, own-level}
+use Rattle.texts.specs.Text.{Declarations, named, noDeclaration, refHead, shown, tokenHead}
+use Rattle.texts.proofs.Levels.{AllSay, AllsSay, TokenSays, headMeaning, level-shown, own-level, params-take}
 use Rattle.forms.specs.Forms.{Gives, levelAt, width}
 use Rattle.levels.specs.Tables.{namesOf, sceneOf}
 use Rattle.forms.proofs.Highest.{low-params}
@@ -28,7 +28,6 @@ use Rattle.forms.proofs.Leading.{params-length}
 use Rattle.levels.specs.Walk.{TextForm}
 use Rattle.worlds.specs.World.{World, evalAt, paramsIn, readDefined}
 use Rattle.worlds.specs.Tables.{Table, byTables, declaredBy}
-use Rattle.forms.specs.Forms.{paramLevels}
 use Rattle.entering.specs.Implied.{impliedLevel}
 use Rattle.entering.specs.Shows.{OneOf, Resolved, Shows, TextNames, TextsName, TokenNames}
 
@@ -98,7 +97,7 @@ module _ (G : ℕ → List ℕ → ℕ) (decls : Declarations) (N F : ℕ → Ty
         → exprAt maxNesting s at ≡ found t e → TextNames N F refs t → Every (Fits ar n) 0 (shown refs decls t)
         → shown refs decls t ≡ u → levelAt f v ≡ evalAt (byTables longWay G w Ss) (paramsIn w) u v
     written-level s at e t f u short form q m ok z =
-        form .level t e q v short
+        form .level t e q v short lows
         ∙ level-shown refs decls (sceneOf numbers words) (paramsIn w) n v size lows D H keeps ar t 0 [] tt (λ (j : ℕ) (l : j < 0). absurd (omega arith)) (all-say t 0 m ok) ok
         ∙ ap (λ (x : Term). evalAt (byTables longWay G w Ss) (paramsIn w) x v) z
 
@@ -106,7 +105,7 @@ module _ (G : ℕ → List ℕ → ℕ) (decls : Declarations) (N F : ℕ → Ty
   values-row : (i m : ℕ) → i + m ≤ n → (x : ℕ) (s : ℕ → ℕ) (β : List ℕ) → evals (byTables longWay G w Ss pre) (drop (paramsIn w) v) β x s (paramsFrom i m) ≡ paramLevels (paramsIn w + i) m v
   values-row i zero h x s β = refl
   values-row i (suc m) h x s β =
-      ap₂ _∷_ (getD-drop (paramsIn w) v i incorrect ∙ sym (own-level v (paramsIn w + i) lows (omega arith)))
+      ap₂ _∷_ (getD-drop (paramsIn w) v i incorrect ∙ sym (own-level v (paramsIn w + i) (omega arith)))
       (values-row (suc i) m (omega arith) x (λ j. s (suc j)) β ∙ ap (λ (j : ℕ). paramLevels j m v) (add-suc (paramsIn w) i))
 
   -- A substitute that is implied.
@@ -116,8 +115,8 @@ module _ (G : ℕ → List ℕ → ℕ) (decls : Declarations) (N F : ℕ → Ty
   unfolding impliedLevel
   implied-level ar r p k f short g e h ok =
       let us : List ℕ = paramLevels (paramsIn w + p) (kindArity k) v in
-      g .at v short ∙ ap (λ (l : List ℕ). named (sceneOf numbers words) r (l ++ us)) (firsts-take (paramsIn w) v lows (omega arith))
-      ∙ says ar r (kindArity k) 0 h ok us (params-length (paramsIn w + p) (kindArity k) v) (low-params (paramsIn w + p) (kindArity k) v)
+      g .at v short lows ∙ ap (λ (l : List ℕ). named (sceneOf numbers words) r (l ++ us)) (params-take (paramsIn w) v (omega arith))
+      ∙ says ar r (kindArity k) 0 h ok us (params-length (paramsIn w + p) (kindArity k) v) (low-params (paramsIn w + p) (kindArity k) v lows)
       ∙ ap (headMeaning D H (refHead decls r)) (sym (values-row p (kindArity k) (omega arith) incorrect (bindsIn plain) []))
       ∙ by-ref (ltb r maxDefinitions) (paramsFrom p (kindArity k))
     where

@@ -4,13 +4,13 @@ use mathlib.Core.List.{List, _++_}
 use Prim.Native.Nat.{ℕ, _+_}
 use lib.Dec.{leb, ltb}
 use Rattle.limits.specs.Limits.{maxArity, maxDeclarations, maxDefinitions}
-use Rattle.texts.specs.Text.{firsts, named}
+use Rattle.theory.specs.Lists.{paramLevels}
+use Rattle.texts.specs.Text.{named}
 use Rattle.levels.specs.Tables.{sceneOf}
 use Rattle.context.specs.Store.{contextCodes, firstAt}
 use Rattle.context.specs.Lookup.{asCode, codeNamed, isDeclared, operatorIn}
 use Rattle.context.specs.declared.Operator.{Operator}
 use Rattle.context.specs.declared.Operator.the-variants.{Constant, Variable, Defined, Unknown}
-use Rattle.forms.specs.Forms.{paramLevels}
 
 -- a declaration's number; of another code the first number that is none, for which the table of forms has level 0
 unfoldable pub numberOf : List ℕ → ℕ → ℕ
@@ -31,4 +31,4 @@ impliedRef names facts contexts heads owner x = refOf facts (operatorIn facts (a
 
 -- What r stands for, at the first P parameters and then at the k that come after p more.
 unfoldable pub impliedLevel : List ℕ → List ℕ → ℕ → ℕ → ℕ → ℕ → List ℕ → ℕ
-impliedLevel numbers words r P p k v = named (sceneOf numbers words) r (firsts P v ++ paramLevels (P + p) k v)
+impliedLevel numbers words r P p k v = named (sceneOf numbers words) r (paramLevels 0 P v ++ paramLevels (P + p) k v)

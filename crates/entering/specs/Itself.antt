@@ -8,7 +8,8 @@ use lib.Dec.{leb}
 use lib.ListN.{length}
 use Rattle.limits.specs.Limits.{maxArity}
 use Rattle.theory.specs.Level.{highest}
-use Rattle.forms.specs.Forms.{Gives, formAt, paramLevels}
+use Rattle.theory.specs.Lists.{paramLevels}
+use Rattle.forms.specs.Forms.{Gives, formAt}
 
 -- a kind is a constant's argument count, or that of a variable, which is above them
 unfoldable pub itselfLevel : ℕ → List ℕ → ℕ

@@ -54,7 +54,7 @@ after-some l m a hl hm z e =
 
 pub level-added : (w l x y : ℕ) → Digit (under l x) y → GivesBits (bitOr w y) (λ v. bitOr (bitsAt w v) (under l (whole x)))
 level-added w l x y d = record {
-  at = λ v _. bits-or w y v ∙ ap (bitOr (bitsAt w v)) (bits-base y v (d .low) ∙ ap whole (d .same) ∙ whole-under l x);
+  at = λ v _ _. bits-or w y v ∙ ap (bitOr (bitsAt w v)) (bits-base y v (d .low) ∙ ap whole (d .same) ∙ whole-under l x);
 }
 
 three : (i : ℕ) → i * 3 + 3 ≡ 3 * suc i
@@ -63,13 +63,13 @@ three i = omega arith
 pub param-added : (w l i : ℕ) → l < 8 → i < 16
     → GivesBits (bitOr w ((l * 2 ^ (i * 3 + 3)) % 2 ^ 64)) (λ v. bitOr (bitsAt w v) (under l (coded (getD v i 0))))
 param-added w l i h k = record {
-  at = λ v _. bits-or w ((l * 2 ^ (i * 3 + 3)) % 2 ^ 64) v
+  at = λ v _ _. bits-or w ((l * 2 ^ (i * 3 + 3)) % 2 ^ 64) v
       ∙ ap (bitOr (bitsAt w v)) (ap (λ (x : ℕ). bitsAt x v) (shl-exact 3 (i * 3 + 3) 64 h (omega arith) ∙ ap (λ (x : ℕ). l * 2 ^ x) (three i)) ∙ bits-one l i v h);
 }
 
 pub param-past : (w l i : ℕ) → (16 ≤ i) → GivesBits w (λ v. bitOr (bitsAt w v) (under l (coded (getD v i 0))))
 param-past w l i h = record {
-  at = λ v s. sym (ap (λ (x : ℕ). bitOr (bitsAt w v) (under l (coded x))) (past v s)
+  at = λ v s _. sym (ap (λ (x : ℕ). bitOr (bitsAt w v) (under l (coded x))) (past v s)
       ∙ ap (bitOr (bitsAt w v)) (under-zero l) ∙ or-zero-r (bitsAt w v));
 }
   where

@@ -1,6 +1,6 @@
 -- Laws of labels and of levels as bits, each by one computed test.
 use mathlib.Core.Path.{_≡_, refl, sym, ap, ap₂, _∙_}
-use Prim.Native.Nat.{ℕ, zero, suc, _+_, _*_, _/_, _%_, _≤_, _<_, max, min}
+use Prim.Native.Nat.{ℕ, zero, suc, _+_, _*_, _/_, _%_, _≤_, _<_, max}
 use native.Mathlib.Nat.{mod-lt, zero-lt-suc}
 use native.Mathlib.Omega.{arith}
 use lib.Arith.{bin-ind, digits-div, digits-mod}
@@ -124,13 +124,6 @@ coded-level b = refl
 pub level-coded : (l : ℕ) → l ≤ 4 → levelOf (coded l) ≡ l
 unfolding levelOf
 level-coded l h = same 5 (λ l. getD levelList (coded l % 8) 0) (λ l. l) tt l (omega arith)
-
-pub coded-min : (l : ℕ) → coded (min 4 l) ≡ coded l
-coded-min zero = refl
-coded-min (suc zero) = refl
-coded-min (suc (suc zero)) = refl
-coded-min (suc (suc (suc zero))) = refl
-coded-min (suc (suc (suc (suc n)))) = let e : min 4 (suc (suc (suc (suc n)))) ≡ 4 = omega arith in ap coded e
 
 pub level-low : (b : ℕ) → levelOf b ≤ 4
 unfolding levelOf

@@ -1,12 +1,12 @@
 -- A level form in one number: digits of three bits. The lowest are the bits of its base, the next those of the label of parameter 0, and so on.
 -- Its level at levels v is the highest of the base and of what each label makes of its parameter's level; what lies past the end of v counts as 0.
 use mathlib.Core.Path.{_≡_}
-use mathlib.Core.List.{List, [], _∷_, map}
-use Prim.Native.Nat.{ℕ, _/_, _^_, _≤_, min}
+use mathlib.Core.List.{List, [], _∷_}
+use Prim.Native.Nat.{ℕ, _/_, _^_, _≤_}
 use lib.Bits.{bitOr}
 use lib.ListN.{getD, length, set}
-use Rattle.theory.specs.Level.{incorrect}
-use Rattle.theory.specs.Lists.{numbersFrom}
+use Rattle.theory.specs.Level.{IsLevel}
+use Rattle.theory.specs.Lists.{All, paramLevels}
 use Rattle.forms.specs.declared.Led.{Led}
 use Rattle.forms.specs.Labels.{coded, levelOf, under, whole}
 
@@ -27,17 +27,13 @@ bitsAt w v = bitOr (whole w) (gives (w / 8) v)
 unfoldable pub levelAt : ℕ → List ℕ → ℕ
 levelAt w v = levelOf (bitsAt w v)
 
--- A contract speaks of a form through the levels that it gives, at all levels of the parameters that it has room for; a level above 4 counts as 4.
+-- A contract speaks of a form through the levels that it gives, at all levels, 0 to 4, of the parameters that it has room for.
 pub record Gives (w : ℕ) (level : List ℕ → ℕ) : Type 0 where
-  pub at : (v : List ℕ) → length v ≤ width → levelAt w v ≡ level v
+  pub at : (v : List ℕ) → length v ≤ width → All IsLevel v → levelAt w v ≡ level v
 
 -- Within the walk over a text it speaks of their bits.
 pub record GivesBits (w : ℕ) (bits : List ℕ → ℕ) : Type 0 where
-  pub at : (v : List ℕ) → length v ≤ width → bitsAt w v ≡ bits v
-
--- the levels of the parameters from i on, k of them; a level above 4 counts as 4
-abbrev pub paramLevels : ℕ → ℕ → List ℕ → List ℕ
-paramLevels i k v = map (λ j. min incorrect (getD v j 0)) (numbersFrom i k)
+  pub at : (v : List ℕ) → length v ≤ width → All IsLevel v → bitsAt w v ≡ bits v
 
 -- the form f with the parameters from i on added, k of them, each under its label inside l, and the labels that are left
 pub record Leads (f l w i k : ℕ) (r : Led) : Type 0 where

@@ -7,8 +7,9 @@ ghost use Prim.Native.Nat.{_+_, _<_, _≤_};
 ghost use lib.Bits.{bitOr};
 ghost use lib.ListN.{getD};
 ghost use Rattle.theory.specs.Level.{highest};
+ghost use Rattle.theory.specs.Lists.{paramLevels};
 ghost use Rattle.forms.specs.Labels.{Digit, after, coded, kept, refused, under, whole};
-ghost use Rattle.forms.specs.Forms.{Gives, GivesBits, Leads, bitsAt, paramLevels, width};
+ghost use Rattle.forms.specs.Forms.{Gives, GivesBits, Leads, bitsAt, width};
 
 pub struct Form;
 

@@ -7,8 +7,8 @@ use lib.Dec.{eqb, ltb}
 use lib.ListN.{getD, getD-replicate, length, length-replicate}
 use native.Mathlib.Nat.{zero-add}
 use native.Mathlib.Omega.{arith}
-use Prim.Native.Nat.{_+_, _-_, _<_, _≤_, min, suc, zero, ℕ}
-use Rattle.forms.specs.Forms.{Gives, levelAt, paramLevels, width}
+use Prim.Native.Nat.{_+_, _-_, _<_, _≤_, suc, zero, ℕ}
+use Rattle.forms.specs.Forms.{Gives, levelAt, width}
 use Rattle.entering.specs.Implied.{impliedLevel}
 use Rattle.laws.proofs.Formats.{some-injective}
 use Rattle.laws.proofs.Invariant.{Good, arity-known}
@@ -25,7 +25,7 @@ use Rattle.texts.specs.Text.{Declarations, named, noDeclaration, refHead}
 use Rattle.theory.specs.Level.{IsLevel, bindsIn, highest, incorrect, plain, top}
 use Rattle.theory.proofs.Lists.{replicate-all}
 use Rattle.theory.specs.Expand.{aritiesOf, itself, paramsFrom}
-use Rattle.theory.specs.Lists.{All, any}
+use Rattle.theory.specs.Lists.{All, any, paramLevels}
 use Rattle.theory.specs.Term.{Fits, Kind, Reading, Term, WellFormed, byCards, declared, declaredLevel, defined, evals, kindArity}
 
 pub zeros-length : (n : ℕ) → length (zeros n) ≡ n
@@ -41,9 +41,7 @@ zeros-at (suc n) (suc i) = zeros-at n i
 
 params-zero : (n i k : ℕ) → paramLevels i k (zeros n) ≡ zeros k
 params-zero n i zero = refl
-params-zero n i (suc k) =
-    let z : min incorrect (getD (zeros n) i 0) ≡ 0 = omega (arith, zeros-at n i) in
-    ap₂ _∷_ z (params-zero n (suc i) k)
+params-zero n i (suc k) = ap₂ _∷_ (zeros-at n i) (params-zero n (suc i) k)
 
 evals-zero : (M : Reading ℕ) (n i k : ℕ) (β : List ℕ) (u : ℕ) (b : ℕ → ℕ) → i + k ≤ n → evals M (zeros n) β u b (paramsFrom i k) ≡ zeros k
 evals-zero M n i zero β u b h = refl
@@ -67,7 +65,7 @@ module _ (words : List ℕ) (decls : Declarations) (s : State) (good : Good s) (
       → WellFormed (aritiesOf (templatesOf s)) n 0 u → n ≤ width → levelAt f (zeros n) ≡ levelOf s (zeros n) u
   written-zero file refs end at n u f t form formed short =
       let tokens : Tokens (t .text) = rw (t .stands) at (tokens-found maxNesting file at) in
-      form .level (t .text) (t .next) (t .stands) (zeros n) (rw (zeros-length n) short)
+      form .level (t .text) (t .next) (t .stands) (zeros n) (rw (zeros-length n) short) (zeros-low n)
       ∙ own-level refs decls (sceneOf itselves words) s good forms n (zeros n) (zeros-length n ∙ sym (zero-add n)) (zeros-low n) (t .text) u tokens (t .below) (t .same) formed
 
   -- one that is implied: the operator r at the parameters after p
@@ -76,7 +74,7 @@ module _ (words : List ℕ) (decls : Declarations) (s : State) (good : Good s) (
       → levelAt f (zeros (p + kindArity k)) ≡ levelOf s (zeros (p + kindArity k)) (itself p k (refHead decls r))
   unfolding impliedLevel
   implied-zero r p k f g below fits short =
-      g .at (zeros (p + kindArity k)) (rw (zeros-length (p + kindArity k)) short)
+      g .at (zeros (p + kindArity k)) (rw (zeros-length (p + kindArity k)) short) (zeros-low (p + kindArity k))
       ∙ ap (named (sceneOf itselves words) r) (ap (λ (i : ℕ). paramLevels i (kindArity k) (zeros (p + kindArity k))) (zero-add p) ∙ params-zero (p + kindArity k) p (kindArity k))
       ∙ go (ltb r maxDefinitions) refl fits
     where

@@ -105,7 +105,7 @@ module _ (file : List ℕ) (fs : List Field) (s : State) (rs : List Row) (v : St
     pub form-law : (ls : List ℕ) → length ls ≡ n → All IsLevel ls → levelAt (t .form) ls ≡ levelOf s ls u
     form-law ls size a =
         let y = text-there in
-        x .form .level (y .text) (y .next) (y .stands) ls (omega arith)
+        x .form .level (y .text) (y .next) (y .stands) ls (omega arith) a
         ∙ own-level refs′ (declarationsOf fs) (sceneOf itselves words) s (stands .good) (stands .forms) n ls (omega arith) a (y .text) u
         (made-of-tokens file at (y .text) (y .next) (y .stands)) (y .below) (y .same) formed
 

@@ -11,16 +11,17 @@ use lib.Bits.{bitOr, or-zero-r}
 use lib.Dec.{eqb, ltb}
 use lib.ListN.{getD}
 use Rattle.limits.specs.Limits.{maxDefinitions}
+use Rattle.theory.specs.Lists.{paramLevels}
 use Rattle.rows.specs.Numbers.{formSize, kindSize, rowNumber}
 use Rattle.rows.proofs.Numbers.{row-count, row-inner, row-low, row-none, row-word}
 use Rattle.tokens.specs.Token.{argumentsOf, isToken, writtenOf}
 use Rattle.tokens.specs.declared.Token.{Token}
 use Rattle.tokens.specs.declared.Token.the-variants.{Parameter, Bound, Name, InstanceOperator, BuiltIn, Literal, NoToken}
 use Rattle.tokens.proofs.Places.{never}
-use Rattle.texts.specs.Text.{firsts, named, scope}
+use Rattle.texts.specs.Text.{named, scope}
 use Rattle.forms.specs.Labels.{coded, levelOf, under, whole}
 use Rattle.forms.specs.Forms.{GivesBits, Leads, bitsAt, gives, levelAt}
-use Rattle.forms.proofs.Laws.{coded-min, or-assoc, under-or, under-zero, whole-digit}
+use Rattle.forms.proofs.Laws.{or-assoc, under-or, under-zero, whole-digit}
 use Rattle.forms.specs.declared.Led.{Led}
 use Rattle.forms.proofs.Forms.{coded-at, gives-none}
 use Rattle.forms.proofs.Leading.{gives-append, params-length}
@@ -61,7 +62,7 @@ module _ (P bits l f x : ℕ) (r : Step) where
   unfolding Says
   parameter-stepped i m g e =
       ended (Parameter i) refl refl (λ v. coded (getD v (P + i) 0)) m g e
-      (λ N at o v ls h k a. coded-min (getD v (N .outer + i) 0) ∙ ap (λ (j : ℕ). coded (getD v (j + i) 0)) o ∙ alone (coded (getD v (P + i) 0)) ls)
+      (λ N at o v ls h low k a. ap (λ (j : ℕ). coded (getD v (j + i) 0)) o ∙ alone (coded (getD v (P + i) 0)) ls)
 
   bit-coded : (b : ℕ) → b ≤ 1 → whole b ≡ coded b
   unfolding whole levelOf
@@ -73,13 +74,13 @@ module _ (P bits l f x : ℕ) (r : Step) where
       → Plain P (Bound j) bits l f x r
   unfolding Says
   bound-stepped j b m (e, h) g d =
-      ended (Bound j) refl refl (λ v. whole b) m g d (λ N at o v ls _ k a. ap coded (sym e) ∙ sym (bit-coded b h) ∙ alone (whole b) ls)
+      ended (Bound j) refl refl (λ v. whole b) m g d (λ N at o v ls _ _ k a. ap coded (sym e) ∙ sym (bit-coded b h) ∙ alone (whole b) ls)
 
   pub literal-stepped : (n : ℕ) → Ended bits f x r → Plain P (Literal n) bits l f x r
   unfolding Says
   literal-stepped n e =
-      ended (Literal n) refl refl (λ v. 0) f (record { at = λ v h. sym (ap (bitOr (bitsAt f v)) (under-zero l) ∙ or-zero-r (bitsAt f v)) }) e
-      (λ N at o v ls h k a. alone 0 ls)
+      ended (Literal n) refl refl (λ v. 0) f (record { at = λ v h _. sym (ap (bitOr (bitsAt f v)) (under-zero l) ∙ or-zero-r (bitsAt f v)) }) e
+      (λ N at o v ls h low k a. alone 0 ls)
 
 -- a token of form w
 pub headed : (w P k e l f x m : ℕ) (led : Led) → GivesBits m (λ v. bitOr (bitsAt f v) (under l (whole (w % 8)))) → Leads m l (w / 8) 0 P led
@@ -90,11 +91,11 @@ headed w P k e l f x m led g d = record {
   inner = refl;
   labels = d .labels;
   form = record {
-    at = λ v h.
-        d .form .at v h
-        ∙ ap (λ (y : ℕ). bitOr y (under l (gives (w / 8) (firsts P v)))) (g .at v h ∙ ap (λ (y : ℕ). bitOr (bitsAt f v) (under l y)) (whole-digit w))
-        ∙ or-assoc (bitsAt f v) (under l (whole w)) (under l (gives (w / 8) (firsts P v)))
-        ∙ ap (bitOr (bitsAt f v)) (sym (under-or l (whole w) (gives (w / 8) (firsts P v))));
+    at = λ v h low.
+        d .form .at v h low
+        ∙ ap (λ (y : ℕ). bitOr y (under l (gives (w / 8) (paramLevels 0 P v)))) (g .at v h low ∙ ap (λ (y : ℕ). bitOr (bitsAt f v) (under l y)) (whole-digit w))
+        ∙ or-assoc (bitsAt f v) (under l (whole w)) (under l (gives (w / 8) (paramLevels 0 P v)))
+        ∙ ap (bitOr (bitsAt f v)) (sym (under-or l (whole w) (gives (w / 8) (paramLevels 0 P v))));
   };
   next = refl;
 }
@@ -114,11 +115,11 @@ module _ (N : Names) (at bits l f x : ℕ) (r : Step) where
   abbrev word : ℕ
   word = getD (N .words) (placeOf (N .numbers) (getD (N .refs) at 0)) 0
 
-  named-says : (v ls : List ℕ) → coded (named (sceneOf (N .numbers) (N .words)) (getD (N .refs) at 0) (firsts (N .outer) v ++ ls))
-      ≡ bitOr (bitOr (whole word) (gives (word / 8) (firsts (N .outer) v))) (gives (word / 8 / 8 ^ N .outer) ls)
+  named-says : (v ls : List ℕ) → coded (named (sceneOf (N .numbers) (N .words)) (getD (N .refs) at 0) (paramLevels 0 (N .outer) v ++ ls))
+      ≡ bitOr (bitOr (whole word) (gives (word / 8) (paramLevels 0 (N .outer) v))) (gives (word / 8 / 8 ^ N .outer) ls)
   unfolding bitsAt
   named-says v ls =
-      let ps = firsts (N .outer) v in
+      let ps = paramLevels 0 (N .outer) v in
       ap coded (sym (same-place (N .numbers) (N .words) (getD (N .refs) at 0) (ps ++ ls))) ∙ coded-at word (ps ++ ls)
       ∙ ap (bitOr (whole word)) (gives-append (word / 8) ps ls ∙ ap (λ (n : ℕ). bitOr (gives (word / 8) ps) (gives (word / 8 / 8 ^ n) ls)) (params-length 0 (N .outer) v))
       ∙ sym (or-assoc (whole word) (gives (word / 8) ps) (gives (word / 8 / 8 ^ N .outer) ls))
@@ -133,9 +134,9 @@ module _ (N : Names) (at bits l f x : ℕ) (r : Step) where
           inner = h .inner;
           low = omega (arith, h .inner);
           next = h .next;
-          base = λ v. bitOr (whole w) (gives (w / 8) (firsts (N .outer) v));
+          base = λ v. bitOr (whole w) (gives (w / 8) (paramLevels 0 (N .outer) v));
           form = h .form;
-          says = λ v ls _ c a. named-says v ls ∙ rw (h .labels, e);
+          says = λ v ls _ _ c a. named-says v ls ∙ rw (h .labels, e);
         };
         operator = λ i n. record {
           ok = h .ok;
@@ -143,9 +144,9 @@ module _ (N : Names) (at bits l f x : ℕ) (r : Step) where
           inner = h .inner;
           low = omega (arith, h .inner);
           next = h .next;
-          base = λ v. bitOr (whole w) (gives (w / 8) (firsts (N .outer) v));
+          base = λ v. bitOr (whole w) (gives (w / 8) (paramLevels 0 (N .outer) v));
           form = h .form;
-          says = λ v ls _ c a. named-says v ls ∙ rw (h .labels, e);
+          says = λ v ls _ _ c a. named-says v ls ∙ rw (h .labels, e);
         };
       }
 
@@ -161,7 +162,7 @@ module _ (code bits l f x h : ℕ) (eh : h ≡ rowNumber code) where
 
   row-says : (labels : ℕ) → labels ≡ h % formSize / 8 / 8 ^ 0 → (N : Names) (at : ℕ) → Says N (BuiltIn code) at bits (λ v. bitOr (whole (h % formSize)) 0) labels
   unfolding Says bitsAt
-  row-says labels e N at v ls _ c a =
+  row-says labels e N at v ls _ _ c a =
       let z : h % formSize / 8 / 1 ≡ h % formSize / 8 = omega arith in
       row-gives code ls c a ∙ rw (e, z, row-word code h eh, or-zero-r) refl
 

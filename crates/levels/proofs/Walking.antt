@@ -12,6 +12,8 @@ use lib.Dec.{eqb, leb}
 use lib.ListN.{getD, length}
 use lib.Pow.{pow-pos}
 use Rattle.limits.specs.Limits.{maxArity, maxNesting}
+use Rattle.theory.specs.Level.{IsLevel}
+use Rattle.theory.specs.Lists.{All}
 use Rattle.theory.specs.Tree.{_▹_, count, ⟨⟩}
 use Rattle.rows.specs.Rows.{arityOf, noCode}
 use Rattle.tokens.specs.Token.{argumentsOf, isToken, taggedAt, tokenAt, widthOf, writtenOf}
@@ -49,16 +51,16 @@ module _ (N : Names) where
     put-over : (y : Founds) (more next : ℕ) → CountedsAt (argumentsOf t) y → AddsAll N (inherit bits (scope t bits) l labels) m y more next
         → Adds N bits l f (over at t y) more next
     unfolding Adds AddsAll Says
-    put-over (founds ts n) more next c (p, q) = (p, record { at = λ v h. here v h })
+    put-over (founds ts n) more next c (p, q) = (p, record { at = λ v h low. here v h low })
       where
-        here : (v : List ℕ) → length v ≤ width
+        here : (v : List ℕ) → length v ≤ width → All IsLevel v
             → bitsAt more v ≡ bitOr (bitsAt f v) (under l (coded (tokenLevel (N .refs) (sceneOf (N .numbers) (N .words)) (N .outer) v bits at t (folds (levelsAt N v) bits (scope t bits) ts))))
-        here v h =
+        here v h low =
             let ls = folds (levelsAt N v) bits (scope t bits) ts in
-            q .at v h ∙ ap (λ (y : ℕ). bitOr y (under l (gives labels ls))) (g .at v h)
+            q .at v h low ∙ ap (λ (y : ℕ). bitOr y (under l (gives labels ls))) (g .at v h low)
             ∙ or-assoc (bitsAt f v) (under l (base v)) (under l (gives labels ls))
             ∙ ap (bitOr (bitsAt f v)) (sym (under-or l (base v) (gives labels ls))
-            ∙ ap (under l) (sym (says v ls h (folds-length N v ts bits (scope t bits) ∙ c .0) (folds-low N v ts bits (scope t bits)))))
+            ∙ ap (under l) (sym (says v ls h low (folds-length N v ts bits (scope t bits) ∙ c .0) (folds-low N v low ts bits (scope t bits)))))
     put-over nones more next c u = tt
 
   -- ---- the first argument and the others
@@ -67,16 +69,16 @@ module _ (N : Names) where
         → GivesBits m (λ v. bitOr (bitsAt f v) (under (after l labels) (coded (fold (levelsAt N v) e t)))) → Scoped outer last e y
         → AddsAll N (inherit outer last l (labels / 8)) m y more next → AddsAll N (inherit outer last l labels) f (before t y) more next
     unfolding AddsAll
-    put-before t (founds ts n) e m more next g hs (p, q) = (p, record { at = λ v h. here v h })
+    put-before t (founds ts n) e m more next g hs (p, q) = (p, record { at = λ v h low. here v h low })
       where
-        here : (v : List ℕ) → length v ≤ width
+        here : (v : List ℕ) → length v ≤ width → All IsLevel v
             → bitsAt more v ≡ bitOr (bitsAt f v) (under l (gives labels (fold (levelsAt N v) (scoped ts outer last) t ∷ folds (levelsAt N v) outer last ts)))
-        here v h =
+        here v h low =
             let ls = folds (levelsAt N v) outer last ts in
             let x = coded (fold (levelsAt N v) (scoped ts outer last) t) in
-            q .at v h
+            q .at v h low
             ∙ ap (λ (y : ℕ). bitOr y (under l (gives (labels / 8) ls)))
-            (g .at v h ∙ ap (λ (i : ℕ). bitOr (bitsAt f v) (under (after l labels) (coded (fold (levelsAt N v) i t)))) hs)
+            (g .at v h low ∙ ap (λ (i : ℕ). bitOr (bitsAt f v) (under (after l labels) (coded (fold (levelsAt N v) i t)))) hs)
             ∙ or-assoc (bitsAt f v) (under (after l labels) x) (under l (gives (labels / 8) ls))
             ∙ ap (bitOr (bitsAt f v)) (ap (λ (y : ℕ). bitOr y (under l (gives (labels / 8) ls))) (sym (under-after l labels x)) ∙ sym (under-or l (under labels x) (gives (labels / 8) ls)))
     put-before t nones e m more next g hs u = tt
@@ -92,7 +94,7 @@ module _ (N : Names) where
     -- no argument
     all-none : (s : List ℕ) (n at k : ℕ) → k ≡ 0 → AddsAll N (inherit outer last l labels) f (several (exprAt n s) at k) f at
     unfolding AddsAll
-    all-none s n at k z = rw z (refl, record { at = λ v h. sym (ap (bitOr (bitsAt f v)) (under-zero l) ∙ or-zero-r (bitsAt f v)) })
+    all-none s n at k z = rw z (refl, record { at = λ v h _. sym (ap (bitOr (bitsAt f v)) (under-zero l) ∙ or-zero-r (bitsAt f v)) })
 
   -- ---- a step
   module _ (s : List ℕ) (at bits l f : ℕ) (r : Step) where
@@ -298,17 +300,17 @@ module _ (N : Names) (form : ℕ) (t : Expr) where
   unfolding whole levelOf
   zero-bits v = bits-base 0 v (omega arith)
 
-  alone : (next e : ℕ) → AddsAll N (inherit 0 0 1 1) 0 (founds (t ▹ ⟨⟩) e) form next → (v : List ℕ) → length v ≤ width
+  alone : (next e : ℕ) → AddsAll N (inherit 0 0 1 1) 0 (founds (t ▹ ⟨⟩) e) form next → (v : List ℕ) → length v ≤ width → All IsLevel v
       → bitsAt form v ≡ coded (fold (levelsAt N v) 0 t)
   unfolding AddsAll
-  alone next e (p, g) v h =
+  alone next e (p, g) v h low =
       let y = fold (levelsAt N v) 0 t in
-      g .at v h ∙ ap (λ (x : ℕ). bitOr x (under 1 (bitOr (under 1 (coded y)) 0))) (zero-bits v) ∙ unfolded y
+      g .at v h low ∙ ap (λ (x : ℕ). bitOr x (under 1 (bitOr (under 1 (coded y)) 0))) (zero-bits v) ∙ unfolded y
 
-  level-of : (v : List ℕ) → bitsAt form v ≡ coded (fold (levelsAt N v) 0 t) → levelAt form v ≡ fold (levelsAt N v) 0 t
+  level-of : (v : List ℕ) → All IsLevel v → bitsAt form v ≡ coded (fold (levelsAt N v) 0 t) → levelAt form v ≡ fold (levelsAt N v) 0 t
   unfolding levelAt
-  level-of v e = ap levelOf e ∙ level-coded (fold (levelsAt N v) 0 t) (fold-low N v t 0)
+  level-of v low e = ap levelOf e ∙ level-coded (fold (levelsAt N v) 0 t) (fold-low N v low t 0)
 
 pub text-shown : (N : Names) (s : List ℕ) (at form next : ℕ) → AddsAll N (inherit 0 0 1 1) 0 (several (exprAt maxNesting s) at 1) form next → TextForm N s at form
 text-shown N s at form next a =
-    record { level = λ t e q v h. level-of N form t v (alone N form t next e (rw q at a) v h) }
+    record { level = λ t e q v h low. level-of N form t v low (alone N form t next e (rw q at a) v h low) }

@@ -9,14 +9,14 @@ use lib.Dec.{eqb}
 use lib.ListN.{length}
 use Rattle.limits.specs.Limits.{maxNesting}
 use Rattle.theory.specs.Level.{IsLevel}
-use Rattle.theory.specs.Lists.{All}
+use Rattle.theory.specs.Lists.{All, paramLevels}
 use Rattle.rows.specs.Rows.{arityOf, noCode}
 use Rattle.tokens.specs.Token.{argumentsOf, isToken, writtenOf}
 use Rattle.tokens.specs.Expr.{Expr, Found, Founds, exprAt, found, founds, none, nones, several}
 use Rattle.tokens.specs.Fold.{fold, folds}
 use Rattle.tokens.specs.declared.Token.{Token}
 use Rattle.tokens.specs.declared.Token.the-variants.{BuiltIn, InstanceOperator, Name}
-use Rattle.texts.specs.Text.{firsts, scope, tokenLevel}
+use Rattle.texts.specs.Text.{scope, tokenLevel}
 use Rattle.forms.specs.Labels.{coded, under, whole}
 use Rattle.forms.specs.Forms.{GivesBits, bitsAt, gives, levelAt, width}
 use Rattle.levels.specs.Tables.{Names, levelsAt, sceneOf}
@@ -38,7 +38,7 @@ AddsAll N u form nones more next = Unit {0}
 -- the level of a token: a base, and what its labels make of its arguments' levels
 unfoldable pub Says : Names → Token → (at bits : ℕ) → (List ℕ → ℕ) → ℕ → Type 0
 Says N t at bits base labels =
-    (v ls : List ℕ) → length v ≤ width → length ls ≡ argumentsOf t → All IsLevel ls
+    (v ls : List ℕ) → length v ≤ width → All IsLevel v → length ls ≡ argumentsOf t → All IsLevel ls
     → coded (tokenLevel (N .refs) (sceneOf (N .numbers) (N .words)) (N .outer) v bits at t ls) ≡ bitOr (base v) (gives labels ls)
 
 -- a step over the token t under label l: its base is added
@@ -67,7 +67,7 @@ pub record Headed (w P k e l f x : ℕ) (r : Step) : Type 0 where
   pub count : r .count ≡ k
   pub inner : r .inner ≡ e
   pub labels : r .labels ≡ w / 8 / 8 ^ P
-  pub form : GivesBits (r .form) (λ v. bitOr (bitsAt f v) (under l (bitOr (whole w) (gives (w / 8) (firsts P v)))))
+  pub form : GivesBits (r .form) (λ v. bitOr (bitsAt f v) (under l (bitOr (whole w) (gives (w / 8) (paramLevels 0 P v)))))
   pub next : r .next ≡ x
 
 -- the bound variables' levels inside a code of this kind (`binderKind` of crate rows)
@@ -118,6 +118,7 @@ pub record Fits (nest : ℕ) (u : Under) : Type 0 where
   pub within : Room nest (u .within)
   pub label : u .label < 8
 
--- the form gives the level of the text at a position, at all levels of the parameters that a form has room for
+-- the form gives the level of the text at a position, at all levels, 0 to 4, of the parameters that a form has room for
 pub record TextForm (N : Names) (s : List ℕ) (at form : ℕ) : Type 0 where
-  pub level : (t : Expr) (e : ℕ) → exprAt maxNesting s at ≡ found t e → (v : List ℕ) → length v ≤ width → levelAt form v ≡ fold (levelsAt N v) 0 t
+  pub level : (t : Expr) (e : ℕ) → exprAt maxNesting s at ≡ found t e → (v : List ℕ) → length v ≤ width → All IsLevel v
+      → levelAt form v ≡ fold (levelsAt N v) 0 t
