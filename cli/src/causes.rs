@@ -198,7 +198,7 @@ const CAUSES: [Cause; 19] = [
         title: "a brought definition is level 4",
         meaning: "Every substitute is lawful, but with all of them in place a definition of the \
             instanced module is not level-correct. Since action and temporal do not mix, and 21 is \
-            judged before it, no file is known that shows it.",
+            judged before it, no file is known that is refused with it.",
         example: Example::None,
     },
     Cause {

@@ -522,7 +522,7 @@ fn names_of_mixed_terms() {
         ("Start /\\ []x", &["Start"]),
         ("x' = 1 /\\ []x", &[]),
         ("I!Step /\\ Live", &["I!Step", "Live"]),
-        ("Both(Start, Live)", &["Start", "Live"]),
+        ("Both(Start, Live)", &["Both", "Start", "Live"]),
         ("With(Live)", &["With", "Live"]),
         ("With([]x)", &["With"]),
     ] {

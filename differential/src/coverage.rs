@@ -26,7 +26,7 @@ pub enum Section {
     Query,
 }
 
-/// The causes that there are. Since L5 no file is known that shows 15: a run that does fails.
+/// The causes that there are. No file is known that is refused with 15: a run with one fails.
 const CAUSES: [u32; 19] = [
     1, 2, 3, 4, 5, 6, 7, 8, 9, 10, 11, 12, 13, 14, 15, 16, 17, 18, 21,
 ];
@@ -231,7 +231,7 @@ impl Coverage {
             .collect();
         if self.get(Section::Cause, &UNSEEN.to_string()) > 0 {
             missing.push(format!(
-                "Cause: {UNSEEN} occurred, and no file is known to show it"
+                "Cause: {UNSEEN} occurred, and no file is known that is refused with it"
             ));
         }
         missing

@@ -27,12 +27,11 @@ impl Site<'_> {
         let written = [action, temporal].map(|part| self.written_part(slot, part));
         let [first, second] =
             [&written[0], &written[1]].map(|each| each.as_deref().unwrap_or(UNWRITTEN));
-        let within = match self.called(whole.head()) {
-            Some(called) => format!(" in {called}"),
-            None => String::new(),
+        let met = format!("{first} has level 2, {second} has level 3");
+        let mut finding = match self.called(whole.head()) {
+            Some(called) => Finding::new(format!("{DO_NOT_MIX} in {called}: {met}")).name(called),
+            None => Finding::new(format!("{DO_NOT_MIX}: {met}")),
         };
-        let message = format!("{DO_NOT_MIX}{within}: {first} has level 2, {second} has level 3");
-        let mut finding = Finding::new(message);
         for (part, written) in mixed.iter().zip(&written) {
             finding = self.point_at(finding, part, written.as_deref());
         }

@@ -31,7 +31,7 @@ pub low-params : (i k : ℕ) (v : List ℕ) → All IsLevel v → All IsLevel (p
 low-params i zero v a = tt
 low-params i (suc k) v a = (low-param i v a, low-params (suc i) k v a)
 
--- the arguments paramLevels i on are in the form
+-- the arguments from i on are in the form
 pub record Joined (k form i : ℕ) : Type 0 where
   pub upTo : i ≤ k
   pub same : GivesBits form (λ v. coded (highest (paramLevels i (k - i) v)))

@@ -57,7 +57,7 @@ pub fn level(form: u64, v: &[u8]) -> u8
     level_of(b)
 }
 
-// The entries of a card that are used with n parameters.
+// "with n parameters 5ⁿ entries are used"
 pub fn power(n: usize) -> usize
     requires { ⌜ n ≤ maxArity ⌝ }
     ensures { λ r. ⌜ r ≡ levelCount ^ n ⌝ }

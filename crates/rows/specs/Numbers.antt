@@ -69,10 +69,11 @@ rowNumber c = numberOf (row c)
 unfoldable pub rowColumn : List ℕ
 rowColumn = column rowNumber 0 rowCount
 
--- the rows that are kept: codes 104 to 127, then 140 and 141
+-- how many rows are kept
 abbrev pub keptCount : ℕ
 keptCount = 26
 
+-- the rows that are kept: codes 104 to 127, then 140 and 141
 abbrev pub keptRows : List ℕ
 keptRows = column rowNumber 104 24 ++ column rowNumber 140 2
 
