@@ -11,3 +11,5 @@ pub mod AddedBy
 pub mod Demand1
 pub mod Demand2
 pub mod Demand3
+-- Lawful instances stay lawful
+pub mod LawfulInstances

@@ -31,14 +31,14 @@ field-obeys s f = (there, back)
           names = (free 6, free 7, free 8, free 9);
           arity = free 10;
           levels = (free 12, free 13);
-          instances = (free 11, free 14, free 21, free 15, free 16);
+          instances = (free 11, free 14, free 21, free 16);
         }
 
     back : FieldObeys s f → judge s f ≡ none
     back o =
         field-judged s f
         ∙ free-none fieldNumbers (causes s f)
-        (o .order, (o .limits, (o .names .0, (o .names .1, (o .names .2, (o .names .3, (o .arity, (o .instances .0, (o .levels .0, (o .levels .1, (o .instances .1, (o .instances .2, (o .instances .3, (o .instances .4, tt))))))))))))))
+        (o .order, (o .limits, (o .names .0, (o .names .1, (o .names .2, (o .names .3, (o .arity, (o .instances .0, (o .levels .0, (o .levels .1, (o .instances .1, (o .instances .2, (o .instances .3, tt)))))))))))))
 
 -- and so a row of fields
 pub clears-obey : (fs : List Field) (s : State) → Clears s fs → EachObeys s fs

@@ -39,8 +39,8 @@ pub record FieldObeys (s : State) (f : Field) : Type 0 where
   -- "level 4 in a body (parameters at 0), substitute or formula", "ASSUME not level 0"
   pub levels : Free s f 12 × Free s f 13
   -- "substituted name not declared there, or twice", "substitute's level not lawful", "an instance of a constant module whose substitutes, implicit ones
-  -- included, hold both a 2 and a 3", "a brought definition is 4 with parameters at 0", "the module instanced has a named instance, its own or extended"
-  pub instances : Free s f 11 × Free s f 14 × Free s f 21 × Free s f 15 × Free s f 16
+  -- included, hold both a 2 and a 3", "the module instanced has a named instance, its own or extended"
+  pub instances : Free s f 11 × Free s f 14 × Free s f 21 × Free s f 16
 
 -- each field, in its turn, after what the fields before it have added
 abbrev pub EachObeys : State → List Field → Type 0

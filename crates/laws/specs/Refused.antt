@@ -18,9 +18,9 @@ use Rattle.theory.specs.Lists.{All, any, find}
 abbrev pub OneOf : List ℕ → ℕ → Type 0
 OneOf ns c = T (any (eqb c) ns)
 
--- the numbers of a field's causes, in the order that they are judged: they rise but for 21, which is "judged after 14 and before 15" (paper 02, L5)
+-- the numbers of a field's causes, in the order that they are judged: they rise but for 21, which is judged after 14 (paper 02, L5); 15 is unused (L6)
 abbrev pub fieldNumbers : List ℕ
-fieldNumbers = 4 ∷ 5 ∷ 6 ∷ 7 ∷ 8 ∷ 9 ∷ 10 ∷ 11 ∷ 12 ∷ 13 ∷ 14 ∷ 21 ∷ 15 ∷ 16 ∷ []
+fieldNumbers = 4 ∷ 5 ∷ 6 ∷ 7 ∷ 8 ∷ 9 ∷ 10 ∷ 11 ∷ 12 ∷ 13 ∷ 14 ∷ 21 ∷ 16 ∷ []
 
 -- "in it, the lowest number whose cause holds", and 21 in its turn: c is the first of the numbers, in the order judged, whose cause holds
 abbrev pub JudgedFirst : List ℕ → List Cause → ℕ → Type 0

@@ -148,7 +148,7 @@ mixed =
     ∷ (instanced ((3, x ′) ∷ (4, box x) ∷ (4, x) ∷ []), refusal 11 8)
     ∷ (twoConstants ++ moduleOf 7 (declare-variable 2 ∷ instance 8 0 1 ((5, x ′ ′) ∷ (3, x ′) ∷ (4, box x) ∷ []) ∷ []), refusal 12 8)
     ∷ (twoConstants ++ moduleOf 7 (declare-variable 2 ∷ instance 8 0 1 ((5, x) ∷ (3, x ′) ∷ (4, box x) ∷ []) ∷ []), refusal 14 8)
-    -- "and before 15": D == 3 + 4 is brought at 4; and before 16
+    -- though D == 3 + 4 would be brought at 4, it is 21; and before 16
     ∷ (
       moduleOf 1 (declare-constant 3 0 ∷ declare-constant 4 0 ∷ definition 6 0 (op 3 plus op 4) ∷ [])
           ++ moduleOf 7 (declare-variable 2 ∷ instance 8 0 1 ((3, x ′) ∷ (4, box x) ∷ []) ∷ []),
@@ -185,7 +185,7 @@ held fs f = collect (λ c. cond (c .1) (some (c .0)) none) (causes (after start 
 abbrev open7 : List Field → List Field
 open7 M = M ++ (begin-module 7 ∷ declare-variable 2 ∷ [])
 
--- Only "of a constant module": 14 alone where it has a variable, or a definition above 0. 15 holds beside 21 where a definition uses both: D == 3 + 4.
+-- Only "of a constant module": 14 alone where it has a variable, or a definition above 0. Whether a definition uses both (D == 3 + 4) or none is all one.
 pub which-hold :
     held (open7 twoConstants) (instance 8 0 1 ((5, num 0) ∷ (3, x ′) ∷ (4, box x) ∷ []))
     ∷ held (open7 twoConstants) (instance 8 0 1 ((5, x) ∷ (3, x ′) ∷ (4, box x) ∷ []))
@@ -194,6 +194,6 @@ pub which-hold :
     ∷ held (open7 (moduleOf 1 (declare-constant 3 0 ∷ declare-constant 4 0 ∷ definition 6 0 (num 0) ∷ []))) (instance 8 0 1 ((3, x ′) ∷ (4, box x) ∷ []))
     ∷ held (open7 (moduleOf 1 (declare-constant 3 0 ∷ declare-constant 4 0 ∷ definition 6 0 (op 3 plus op 4) ∷ []))) (instance 8 0 1 ((3, x ′) ∷ (4, box x) ∷ []))
     ∷ []
-    ≡ (21 ∷ []) ∷ (14 ∷ 21 ∷ []) ∷ (14 ∷ []) ∷ (14 ∷ []) ∷ (21 ∷ []) ∷ (21 ∷ 15 ∷ []) ∷ []
+    ≡ (21 ∷ []) ∷ (14 ∷ 21 ∷ []) ∷ (14 ∷ []) ∷ (14 ∷ []) ∷ (21 ∷ []) ∷ (21 ∷ []) ∷ []
 unfolding row
 which-hold = refl
