@@ -12,9 +12,10 @@
  * file's cards are there after a query too, whether it is answered or refused.
  *
  * A reply is a value, or 2^31 + 65,536 * number + place for a refusal; that of a body has 64 bits
- * and macros of its own. The numbers are those of paper 01's causes, 1 to 18, and 21 of paper 02:
- * an instance of a constant module whose substitutes hold both a 2 and a 3. docs/HANDBOOK.md has
- * them in the order in which they are judged. */
+ * and macros of its own. The numbers are those of paper 01's causes, 1 to 14 and 16 to 18, and 21
+ * of paper 02: an instance of a constant module whose substitutes hold both a 2 and a 3. No reply
+ * has 15, which is unused since paper 02's L6. docs/HANDBOOK.md has them in the order in which they
+ * are judged. */
 #ifndef RAFTERCLARY_H
 #define RAFTERCLARY_H
 

@@ -70,8 +70,8 @@ pub const CARD: usize = 125;
 /// The bytes of the longest expansion: an output of this length is never too short.
 pub const EXPANSION: usize = 65_535;
 
-/// A call is refused: by what cause, numbered as in paper 01 (1 to 18) and paper 02 (21), and at
-/// which field, counted from 0.
+/// A call is refused: by what cause, numbered as in paper 01 (1 to 14 and 16 to 18; 15 is unused
+/// since paper 02's L6) and paper 02 (21), and at which field, counted from 0.
 /// For a query's expression and its parameters the place is the number of fields.
 #[derive(Clone, Copy, Debug, PartialEq, Eq)]
 pub struct Refusal {
