@@ -1,7 +1,7 @@
 //! The shapes of `--json` for the queries.
 
 use crate::archive::Refusal;
-use crate::causes;
+use crate::causes::title;
 use crate::finding::Finding;
 use crate::json::{Card, Refused, Words};
 use crate::question::Question;
@@ -30,7 +30,7 @@ impl<A> Answer<A> {
         Answer::Refused(Box::new(Refused {
             number: refusal.number,
             place: refusal.place,
-            cause: causes::cause(refusal.number).map_or("", |cause| cause.title),
+            cause: title(refusal.number),
             field: None,
             words: finding.clone().into(),
         }))

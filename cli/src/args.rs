@@ -204,7 +204,7 @@ pub enum Command {
     },
     /// Tell what a refusal means, with the smallest file that shows it
     Explain {
-        /// The number of the refusal
+        /// The number of the refusal: 1 to 14, 16 to 18 or 21 (15 is no longer used)
         #[arg(value_parser = clap::value_parser!(u32).range(1..=21))]
         number: u32,
     },

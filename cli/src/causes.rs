@@ -1,4 +1,4 @@
-//! The numbered causes in words, each with the smallest file that shows it.
+//! The numbers of refusals in words, each cause with the smallest file that shows it.
 
 /// The smallest file that is refused by a number.
 pub enum Example {
@@ -18,10 +18,38 @@ pub struct Cause {
     pub example: Example,
 }
 
-/// The cause with a number.
-pub fn cause(number: u32) -> Option<&'static Cause> {
+/// A number that no refusal has any more. It is no cause, and nothing is refused with it.
+pub struct Unused {
+    pub number: u32,
+    /// What it meant, and why it cannot arise.
+    pub meaning: &'static str,
+}
+
+/// What a number is.
+pub enum Numbered {
+    Cause(&'static Cause),
+    Unused(&'static Unused),
+}
+
+/// What a number is, if it is or was a cause's.
+pub fn numbered(number: u32) -> Option<Numbered> {
+    if number == UNUSED.number {
+        return Some(Numbered::Unused(&UNUSED));
+    }
+    cause(number).map(Numbered::Cause)
+}
+
+fn cause(number: u32) -> Option<&'static Cause> {
     CAUSES.iter().find(|cause| cause.number == number)
 }
+
+/// The cause of a refusal, as the table has it.
+pub fn title(number: u32) -> &'static str {
+    cause(number).map_or(UNKNOWN, |cause| cause.title)
+}
+
+/// Of a refusal by another archive than the one that these words are for.
+const UNKNOWN: &str = "this program knows no cause with that number";
 
 /// Levels 0 to 4.
 pub const LEVELS: [&str; 5] = [
@@ -64,7 +92,7 @@ pub fn takes(code: u8) -> Option<&'static str> {
 }
 
 /// In the order in which they are judged.
-const CAUSES: [Cause; 19] = [
+const CAUSES: [Cause; 18] = [
     Cause {
         number: 1,
         title: "card memory under 32,000 bytes",
@@ -194,14 +222,6 @@ const CAUSES: [Cause; 19] = [
         ),
     },
     Cause {
-        number: 15,
-        title: "a brought definition is level 4",
-        meaning: "Every substitute is lawful, but with all of them in place a definition of the \
-            instanced module is not level-correct. Since action and temporal do not mix, and 21 is \
-            judged before it, no file is known that is refused with it.",
-        example: Example::None,
-    },
-    Cause {
         number: 16,
         title: "the module instanced has a named instance",
         meaning: "A module that has a named instance, its own or extended, cannot be instanced. \
@@ -226,22 +246,49 @@ const CAUSES: [Cause; 19] = [
     },
 ];
 
+const UNUSED: Unused = Unused {
+    number: 15,
+    meaning: "No refusal has this number any more. It meant that a brought definition is 4 with \
+        parameters at 0, and that cannot arise: an instance that clears 14 and 21 brings nothing \
+        that is level 4 with its parameters at 0. \"Lawful instances stay lawful\" in the handbook \
+        says why.",
+};
+
+// It is no cause's number, so no refusal is told as if it were.
+const _: () = {
+    let mut place = 0;
+    while place < CAUSES.len() {
+        assert!(CAUSES[place].number != UNUSED.number);
+        place += 1;
+    }
+};
+
 #[cfg(test)]
 mod tests {
     use super::*;
 
-    /// 1 to 18 and 21, and 21 is judged after 14 and before 15.
+    /// 1 to 14, 16 to 18 and 21, and 21 is judged after 14 and before 16.
     #[test]
     fn numbers() {
         let judged: Vec<u32> = CAUSES.iter().map(|cause| cause.number).collect();
-        let expected: Vec<u32> = (1..=14).chain([21]).chain(15..=18).collect();
+        let expected: Vec<u32> = (1..=14).chain([21]).chain(16..=18).collect();
         assert_eq!(judged, expected);
-        for number in judged {
-            assert_eq!(cause(number).map(|cause| cause.number), Some(number));
+        for cause in &CAUSES {
+            assert_eq!(title(cause.number), cause.title);
+            let found = numbered(cause.number);
+            assert!(matches!(found, Some(Numbered::Cause(found)) if found.number == cause.number));
         }
         for number in [0, 19, 20, 22] {
-            assert!(cause(number).is_none(), "{number}");
+            assert!(numbered(number).is_none(), "{number}");
+            assert_eq!(title(number), UNKNOWN, "{number}");
         }
+    }
+
+    /// 15 is known and no cause: a refusal with it is one that this program does not know.
+    #[test]
+    fn unused() {
+        assert!(matches!(numbered(15), Some(Numbered::Unused(unused)) if unused.number == 15));
+        assert_eq!(title(15), UNKNOWN);
     }
 
     /// Both that speak of mixing say what to write instead.

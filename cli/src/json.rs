@@ -1,7 +1,7 @@
 //! The shapes of `--json`: one object on a line for each file.
 
 use crate::archive::Refusal;
-use crate::causes;
+use crate::causes::title;
 use crate::finding::Finding;
 use crate::input::Input;
 use crate::outline::Definition;
@@ -129,7 +129,7 @@ impl Refused {
         Refused {
             number: refusal.number,
             place: refusal.place,
-            cause: causes::cause(refusal.number).map_or("", |cause| cause.title),
+            cause: title(refusal.number),
             field: Field::at(input, refusal),
             words: finding.into(),
         }
@@ -195,7 +195,10 @@ pub struct Fault {
 #[derive(Serialize)]
 pub struct Explained {
     pub number: u32,
-    pub cause: &'static str,
+    /// Whether a refusal may have it.
+    pub used: bool,
+    /// `null` of a number that is not used.
+    pub cause: Option<&'static str>,
     pub meaning: &'static str,
     /// The smallest file that shows it, in hexadecimal.
     pub hexadecimal: Option<String>,

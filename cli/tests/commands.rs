@@ -39,13 +39,15 @@ fn cards() {
 /// Each smallest file is refused by its number, as the archive says.
 #[test]
 fn explanations() {
-    for number in (1..=18).chain([21]) {
+    for number in (1..=14).chain(16..=18).chain([21]) {
         let words = ["explain", "--json", &number.to_string()];
         let told = &run(&words).json()[0];
-        assert_eq!(told["number"], number);
+        assert_eq!(
+            (&told["number"], &told["used"]),
+            (&number.into(), &true.into())
+        );
         let Some(hexadecimal) = told["hexadecimal"].as_str() else {
-            // Nothing shows 15 since action and temporal do not mix.
-            assert!(matches!(number, 1 | 15 | 17 | 18), "{number}");
+            assert!(matches!(number, 1 | 17 | 18), "{number}");
             assert_eq!(told["place"], Value::Null);
             continue;
         };
@@ -55,6 +57,7 @@ fn explanations() {
             .collect();
         let check = &run_with(&["check", "--json"], &bytes).json()[0];
         assert_eq!(check["number"], number);
+        assert_eq!(check["cause"], told["cause"]);
         assert_eq!(check["place"], told["place"]);
         // No smaller file comes of leaving bytes out at the end.
         for length in 0..bytes.len() {
@@ -72,6 +75,31 @@ fn explanations() {
             .text()
             .contains(&format!("The archive's reply: refused {number} ")));
     }
+}
+
+/// 15 was a cause, and is known: it is explained, as no cause, with nothing that shows it.
+#[test]
+fn a_number_that_is_not_used() {
+    let told = run(&["explain", "15"]);
+    assert_eq!((told.status, told.err.as_str()), (0, ""));
+    let json = &run(&["explain", "--json", "15"]).json()[0];
+    let meaning = json["meaning"].as_str().expect("words");
+    for words in [
+        "No refusal has this number any more.",
+        "a brought definition is 4 with parameters at 0",
+        "an instance that clears 14 and 21",
+    ] {
+        assert!(meaning.contains(words), "{words}");
+    }
+    let expected = serde_json::json!({
+        "number": 15, "used": false, "cause": null, "meaning": meaning,
+        "hexadecimal": null, "text": null, "place": null,
+    });
+    assert_eq!(json, &expected);
+    let told_words: Vec<&str> = told.text().split_whitespace().collect();
+    assert_eq!(told_words.join(" "), format!("15: not used {meaning}"));
+    let help = run(&["explain", "--help"]);
+    assert!(help.text().contains("15 is no longer used"));
 }
 
 #[test]

@@ -2,7 +2,7 @@
 
 mod common;
 
-use common::{root, run, words};
+use common::{root, run, run_with, sample, words};
 use std::fs;
 
 #[test]
@@ -39,11 +39,32 @@ fn commands_print_what_it_shows() {
     assert!(ran >= 13 && compared >= 11, "{ran} {compared}");
 }
 
+/// The modules shown before a listing are those of the sample that is listed.
+#[test]
+fn modules_are_those_of_the_samples() {
+    let text = fs::read_to_string(root().join("docs/HANDBOOK.md")).expect("the handbook");
+    let blocks: Vec<&str> = text.split("\n\n").collect();
+    let mut compared = 0;
+    for pair in blocks.windows(2) {
+        let (shown, command) = (pair[0], pair[1]);
+        let listed = command.strip_prefix("    rafterclary list samples/");
+        let Some((stem, _)) = listed.and_then(|listed| listed.split_once(".tla")) else {
+            continue;
+        };
+        assert!(shown.starts_with("    ---- MODULE "), "{shown}");
+        let told = run_with(&["convert", "--as", "text", "-"], shown.as_bytes());
+        assert_eq!(told.out, sample(&format!("{stem}.bin")), "{stem}");
+        compared += 1;
+    }
+    assert_eq!(compared, 2);
+}
+
 fn one_line(text: &str) -> String {
     text.split_whitespace().collect::<Vec<_>>().join(" ")
 }
 
-/// Each section says what `explain` says, and they stand in the order in which causes are judged.
+/// Each section says what `explain` says, and they stand in the order in which causes are judged,
+/// 15, which is none, between its neighbours.
 #[test]
 fn causes() {
     let text = fs::read_to_string(root().join("docs/HANDBOOK.md")).expect("the handbook");
@@ -54,8 +75,10 @@ fn causes() {
     assert_eq!(sections.len(), numbers.len());
     for (section, number) in sections.iter().zip(numbers) {
         let told = &run(&["explain", "--json", &number.to_string()]).json()[0];
+        assert_eq!(told["used"], number != 15);
         let word = |key: &str| told[key].as_str().unwrap_or_default();
-        let head = format!("{number}: {}\n\n{}\n", word("cause"), word("meaning"));
+        let title = told["cause"].as_str().unwrap_or("not used");
+        let head = format!("{number}: {title}\n\n{}\n", word("meaning"));
         assert!(section.starts_with(&head), "{section}\n{head}");
         let shown = one_line(section);
         for key in ["hexadecimal", "text"] {

@@ -2,7 +2,7 @@
 
 use super::{put, put_json, Options};
 use crate::archive;
-use crate::causes::{self, Example};
+use crate::causes::{numbered, Cause, Example, Numbered, Unused};
 use crate::json::Explained;
 use crate::{Misuse, Status};
 use std::fmt::Write;
@@ -15,11 +15,8 @@ pub fn run(options: Options, number: u32) -> Result<Status, Misuse> {
         put_json(&explained)?;
         return Ok(Status::Accepted);
     }
-    let mut text = format!(
-        "{number}: {}\n\n{}",
-        explained.cause,
-        wrapped(explained.meaning)
-    );
+    let title = explained.cause.unwrap_or("not used");
+    let mut text = format!("{number}: {title}\n\n{}", wrapped(explained.meaning));
     if let Some(hexadecimal) = &explained.hexadecimal {
         let _ = writeln!(text, "\nThe smallest file that shows it:\n");
         if let Some(written) = explained.text {
@@ -45,8 +42,29 @@ pub fn run(options: Options, number: u32) -> Result<Status, Misuse> {
 }
 
 fn explained(number: u32) -> Result<Explained, Misuse> {
-    let cause = causes::cause(number)
-        .ok_or_else(|| Misuse::Message(format!("no refusal has the number {number}")))?;
+    match numbered(number) {
+        Some(Numbered::Cause(cause)) => shown(cause),
+        Some(Numbered::Unused(unused)) => Ok(not_used(unused)),
+        None => {
+            let message = format!("no refusal has the number {number}");
+            Err(Misuse::Message(message))
+        }
+    }
+}
+
+fn not_used(unused: &Unused) -> Explained {
+    Explained {
+        number: unused.number,
+        used: false,
+        cause: None,
+        meaning: unused.meaning,
+        hexadecimal: None,
+        text: None,
+        place: None,
+    }
+}
+
+fn shown(cause: &Cause) -> Result<Explained, Misuse> {
     let (text, bytes) = match cause.example {
         Example::Text(text) => {
             let file = notation::parse(text).map_err(|fault| Misuse::Message(fault.to_string()))?;
@@ -59,15 +77,16 @@ fn explained(number: u32) -> Result<Explained, Misuse> {
     };
     let place = bytes.as_ref().and_then(|bytes| {
         let refusal = archive::check(bytes).err()?;
-        (refusal.number == number).then_some(refusal.place)
+        (refusal.number == cause.number).then_some(refusal.place)
     });
     let hexadecimal = bytes.map(|bytes| {
         let each: Vec<String> = bytes.iter().map(|byte| format!("{byte:02x}")).collect();
         each.join(" ")
     });
     Ok(Explained {
-        number,
-        cause: cause.title,
+        number: cause.number,
+        used: true,
+        cause: Some(cause.title),
         meaning: cause.meaning,
         hexadecimal,
         text,

@@ -1,8 +1,9 @@
 //! A query's own refusals: 17, 3, 5, 9 and 10 of its expression and parameters, and 18.
 
 use super::limits::{within, PARAMETERS};
-use super::{find, title, Finding, Focus, Site};
+use super::{find, Finding, Focus, Site};
 use crate::archive::Refusal;
+use crate::causes::title;
 use crate::input::Input;
 use crate::outline::Outline;
 use crate::question::Question;

@@ -13,7 +13,7 @@ mod writing;
 pub use asked::{find_asked, find_level, no_definition, Told};
 
 use crate::archive::Refusal;
-use crate::causes;
+use crate::causes::title;
 use crate::input::Input;
 use crate::outline::Outline;
 use crate::question::Parameter;
@@ -125,10 +125,6 @@ pub fn find(input: &Input, refusal: Refusal) -> Finding {
     finding
 }
 
-fn title(number: u32) -> &'static str {
-    causes::cause(number).map_or("refused", |cause| cause.title)
-}
-
 impl<'i> Site<'i> {
     fn new(input: &'i Input, place: usize) -> Option<Site<'i>> {
         let field = input.file.fields.get(place)?;
@@ -218,4 +214,26 @@ fn order(input: &Input, place: usize, field: Option<&Field>) -> Finding {
         _ => "this field stands outside a module".to_string(),
     });
     finding.mark(place, Focus::Field, "outside its order")
+}
+
+#[cfg(test)]
+mod tests {
+    use super::*;
+    use crate::json::Refused;
+
+    /// A refusal with a number that is no cause's, 15 among them, is told as one.
+    #[test]
+    fn numbers_that_are_no_causes() {
+        let module = [1, 0, 2, 0, 1, 7, 0, 0];
+        let input = Input::tagged("a file".to_string(), module.to_vec());
+        for number in [15, 19, 20, 22] {
+            let refusal = Refusal { number, place: 1 };
+            let finding = find(&input, refusal);
+            let unknown = "this program knows no cause with that number";
+            assert_eq!(finding.message, unknown, "{number}");
+            assert_eq!(finding.mark.as_ref().map(|mark| mark.field), Some(1));
+            let refused = Refused::new(&input, refusal, finding);
+            assert_eq!((refused.number, refused.cause), (number, unknown));
+        }
+    }
 }
