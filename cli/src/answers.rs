@@ -24,9 +24,13 @@ pub enum Answer<A> {
     Refused(Box<Refused>),
 }
 
-impl<A> Answer<A> {
+/// A query that is refused has no answer.
+#[derive(Serialize)]
+pub enum NoAnswer {}
+
+impl Answer<NoAnswer> {
     /// A refusal of the query's own: its place is no field.
-    pub fn refused(refusal: Refusal, finding: &Finding) -> Answer<A> {
+    pub fn refused(refusal: Refusal, finding: &Finding) -> Answer<NoAnswer> {
         Answer::Refused(Box::new(Refused {
             number: refusal.number,
             place: refusal.place,

@@ -1,8 +1,8 @@
 //! `alike`: whether two definitions have one card.
 
 use super::choosing::chosen;
-use super::{accepted, put, put_json, refused, refused_query, Failure, Options, Telling};
-use crate::answers::{Alike, AlikeAsked, Answer, Asked};
+use super::{accepted, put, put_asked, refused, refused_query, Failure, Options, Telling};
+use crate::answers::{Alike, AlikeAsked, Answer};
 use crate::archive::{self, Cards};
 use crate::finding::{no_definition, Told};
 use crate::input::Input;
@@ -24,40 +24,32 @@ pub fn run(options: Options, path: &Path, wanted: [&String; 2]) -> Result<Status
     let first = chosen(&input, &outline, wanted[0])?;
     let second = chosen(&input, &outline, wanted[1])?;
     let numbers = [first, second];
-    let (answer, status) = match archive::alike(&input.bytes, first, second) {
+    let query = AlikeAsked { numbers };
+    match archive::alike(&input.bytes, first, second) {
         Ok(alike) => {
             let cards = numbers.iter().filter_map(|&number| {
                 let number = number as usize;
                 card(&input, &cards, &outline, number)
             });
             let cards = cards.collect();
-            (Answer::Answered(Alike { alike, cards }), Status::Accepted)
+            let answer = Alike { alike, cards };
+            match options.json {
+                true => put_asked(&input, query, Answer::Answered(answer))?,
+                false => put(text(&answer).as_bytes())?,
+            }
+            Ok(Status::Accepted)
         }
         Err(refusal) => {
             let missing = numbers
                 .into_iter()
                 .find(|&number| number as usize >= cards.count);
-            let finding = no_definition(missing.unwrap_or(first), cards.count);
-            if !options.json {
-                let told = Told {
-                    finding,
-                    input: None,
-                };
-                return refused_query(options, &input, refusal, &told);
-            }
-            (Answer::refused(refusal, &finding), Status::Refused)
+            let told = Told {
+                finding: no_definition(missing.unwrap_or(first), cards.count),
+                input: None,
+            };
+            refused_query(options, &input, query, refusal, &told)
         }
-    };
-    if options.json {
-        put_json(&Asked {
-            file: &input.name,
-            query: AlikeAsked { numbers },
-            answer,
-        })?;
-    } else if let Answer::Answered(answered) = &answer {
-        put(text(answered).as_bytes())?;
     }
-    Ok(status)
 }
 
 fn card(input: &Input, cards: &Cards, outline: &Outline, number: usize) -> Option<Card> {

@@ -1,8 +1,8 @@
 //! `body`: the part of the file that holds a definition's body.
 
 use super::choosing::chosen;
-use super::{accepted, put, put_json, refused, refused_query, Failure, Options, Telling};
-use crate::answers::{hexadecimal, Answer, Asked, Body, BodyAsked};
+use super::{accepted, put, put_asked, refused, refused_query, Failure, Options, Telling};
+use crate::answers::{hexadecimal, Answer, Body, BodyAsked};
 use crate::archive;
 use crate::finding::{no_definition, Told};
 use crate::input::Input;
@@ -23,33 +23,24 @@ pub fn run(options: Options, path: &Path, wanted: &str) -> Result<Status, Misuse
         }
     };
     let definition = chosen(&input, &outline, wanted)?;
-    let (answer, status) = match archive::body(&input.bytes, definition) {
+    let query = BodyAsked { definition };
+    match archive::body(&input.bytes, definition) {
         Ok(part) => {
             let body = body(&input, &outline, definition, part)?;
-            (Answer::Answered(body), Status::Accepted)
+            match options.json {
+                true => put_asked(&input, query, Answer::Answered(body))?,
+                false => put(text(definition, &body).as_bytes())?,
+            }
+            Ok(Status::Accepted)
         }
         Err(refusal) => {
-            let finding = no_definition(definition, cards.count);
-            if !options.json {
-                let told = Told {
-                    finding,
-                    input: None,
-                };
-                return refused_query(options, &input, refusal, &told);
-            }
-            (Answer::refused(refusal, &finding), Status::Refused)
+            let told = Told {
+                finding: no_definition(definition, cards.count),
+                input: None,
+            };
+            refused_query(options, &input, query, refusal, &told)
         }
-    };
-    if options.json {
-        put_json(&Asked {
-            file: &input.name,
-            query: BodyAsked { definition },
-            answer,
-        })?;
-    } else if let Answer::Answered(body) = &answer {
-        put(text(definition, body).as_bytes())?;
     }
-    Ok(status)
 }
 
 /// What the file has in that part.

@@ -1,7 +1,7 @@
 //! `expand`: an expression at the end of a module with no defined name left in it.
 
-use super::{accepted, put, put_json, refused, refused_query, Failure, Options, Telling};
-use crate::answers::{hexadecimal, Answer, Asked, Expansion, ExpansionAsked};
+use super::{accepted, put, put_asked, refused, refused_query, Failure, Options, Telling};
+use crate::answers::{hexadecimal, Answer, Expansion, ExpansionAsked};
 use crate::archive;
 use crate::finding::find_asked;
 use crate::input::Input;
@@ -32,16 +32,13 @@ pub fn run(
         parameters,
         ..
     } = &question;
+    let query = ExpansionAsked::new(input.module(*module), &question);
     match archive::expand(&input.bytes, *module, bytes, parameters.len()) {
         Ok(bytes) => {
             let expansion = expansion(&input, &question, &bytes)?;
             if options.json {
-                return say(
-                    &input,
-                    &question,
-                    Answer::Answered(expansion),
-                    Status::Accepted,
-                );
+                put_asked(&input, query, Answer::Answered(expansion))?;
+                return Ok(Status::Accepted);
             }
             let Expansion {
                 length, expansion, ..
@@ -51,11 +48,7 @@ pub fn run(
         }
         Err(refusal) => {
             let told = find_asked(&input, &outline, &question, refusal);
-            if options.json {
-                let answer = Answer::refused(refusal, &told.finding);
-                return say(&input, &question, answer, Status::Refused);
-            }
-            refused_query(options, &input, refusal, &told)
+            refused_query(options, &input, query, refusal, &told)
         }
     }
 }
@@ -71,18 +64,4 @@ fn expansion(input: &Input, question: &Question, bytes: &[u8]) -> Result<Expansi
         expansion: written(&read, &input.file.names, &question.parameters),
         expansion_hexadecimal: hexadecimal(bytes),
     })
-}
-
-fn say(
-    input: &Input,
-    question: &Question,
-    answer: Answer<Expansion>,
-    status: Status,
-) -> Result<Status, Misuse> {
-    put_json(&Asked {
-        file: &input.name,
-        query: ExpansionAsked::new(input.module(question.module), question),
-        answer,
-    })?;
-    Ok(status)
 }

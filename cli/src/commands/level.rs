@@ -1,7 +1,7 @@
 //! `level`: the level of an expression at the end of a module.
 
-use super::{accepted, put, put_json, refused, refused_query, Failure, Options, Telling};
-use crate::answers::{Answer, Asked, Level, LevelAsked};
+use super::{accepted, put, put_asked, refused, refused_query, Failure, Options, Telling};
+use crate::answers::{Answer, Level, LevelAsked};
 use crate::archive;
 use crate::causes::LEVELS;
 use crate::diagnostics;
@@ -29,19 +29,16 @@ pub fn run(
     let parameters = levelled(&input.file.names, levels)?;
     let question = Question::new(&input, module, given, parameters, options.colors)?;
     let Question { module, bytes, .. } = &question;
+    let query = LevelAsked::new(input.module(*module), &question);
     let reply = archive::level(&input.bytes, *module, bytes, &question.levels());
     match reply {
         Ok(level) => {
             let why = (level == 4).then(|| find_level(&input, &outline, &question));
-            answered(options, &input, &question, level, why.flatten())
+            answered(options, &input, query, level, why.flatten())
         }
         Err(refusal) => {
             let told = find_asked(&input, &outline, &question, refusal);
-            if options.json {
-                let answer = Answer::refused(refusal, &told.finding);
-                return say(&input, &question, answer, Status::Refused);
-            }
-            refused_query(options, &input, refusal, &told)
+            refused_query(options, &input, query, refusal, &told)
         }
     }
 }
@@ -50,14 +47,14 @@ pub fn run(
 fn answered(
     options: Options,
     input: &Input,
-    question: &Question,
+    query: LevelAsked,
     level: u8,
     why: Option<Told>,
 ) -> Result<Status, Misuse> {
     if options.json {
         let why = why.map(|told| told.finding.into());
-        let answer = Answer::Answered(Level { level, why });
-        return say(input, question, answer, Status::Accepted);
+        put_asked(input, query, Answer::Answered(Level { level, why }))?;
+        return Ok(Status::Accepted);
     }
     let word = LEVELS.get(usize::from(level)).unwrap_or(&"");
     put(format!("{level} {word}\n").as_bytes())?;
@@ -69,18 +66,4 @@ fn answered(
         diagnostics::explained(asked, finding, options.colors)?;
     }
     Ok(Status::Accepted)
-}
-
-fn say(
-    input: &Input,
-    question: &Question,
-    answer: Answer<Level>,
-    status: Status,
-) -> Result<Status, Misuse> {
-    put_json(&Asked {
-        file: &input.name,
-        query: LevelAsked::new(input.module(question.module), question),
-        answer,
-    })?;
-    Ok(status)
 }

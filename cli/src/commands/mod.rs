@@ -12,6 +12,7 @@ mod level;
 mod list;
 mod show;
 
+use crate::answers::{Answer, Asked};
 use crate::archive::{self, Cards, Refusal};
 use crate::args::{Args, Command};
 use crate::diagnostics::{self, Colors};
@@ -177,13 +178,31 @@ fn refused(
     Ok(Status::Refused)
 }
 
+/// Prints what was asked and what came of it as JSON.
+fn put_asked<A: Serialize>(
+    input: &Input,
+    query: impl Serialize,
+    answer: Answer<A>,
+) -> Result<(), Misuse> {
+    put_json(&Asked {
+        file: &input.name,
+        query,
+        answer,
+    })
+}
+
 /// Tells a refusal of a query's own, the file itself being accepted.
 fn refused_query(
     options: Options,
     input: &Input,
+    query: impl Serialize,
     refusal: Refusal,
     told: &Told,
 ) -> Result<Status, Misuse> {
+    if options.json {
+        put_asked(input, query, Answer::refused(refusal, &told.finding))?;
+        return Ok(Status::Refused);
+    }
     let Refusal { number, place } = refusal;
     let at = match number {
         1 | 2 | 17 | 18 => number.to_string(),
