@@ -8,7 +8,7 @@ use native.Mathlib.Omega.{arith}
 use Prim.Native.Nat.{_≤_, max, ℕ}
 use Rattle.theory.proofs.Finite.{_implies_, at-levels, atLevels, modus}
 use Rattle.theory.proofs.Levels.{highest-level}
-use Rattle.theory.proofs.Lists.{and-both, and-parts, any-at, append-all, every-all, map-all, or-left, or-right, split-all}
+use Rattle.theory.proofs.Lists.{and-both, and-parts, any-at, append-all, each-all, every-all, map-all, or-left, or-right, split-all}
 use Rattle.theory.specs.Lattice.{Below, Closed, EachBelow, Lattice, higher}
 use Rattle.theory.specs.Level.{IsLevel, Mask, Row, highest, incorrect, mixes, table, taken, top}
 use Rattle.theory.specs.Lists.{All, any, every}
@@ -86,11 +86,8 @@ highest-upper ls a = go (mixes ls) refl
         (λ l q. (q .0, λ d f. subst T e (and-both (any (eqb 2) ls) (any (eqb 3) ls) (subst (λ (l : ℕ). T (any (eqb l) ls)) d (q .1)) (top-is-3 ls f)))) ls (each-under ls)
 
 -- levels each below its fellow have their highest below the other's
-each-below : (ls ms : List ℕ) (n : ℕ) → EachBelow ls ms → All (λ m. Below m n) ms → All (λ l. Below l n) ls
-each-below [] [] n r a = tt
-each-below [] (m ∷ ms) n r a = absurd r
-each-below (l ∷ ls) [] n r a = absurd r
-each-below (l ∷ ls) (m ∷ ms) n r a = (below-then l m n (r .0) (a .0), each-below ls ms n (r .1) (a .1))
+pub each-below : (ls ms : List ℕ) (n : ℕ) → EachBelow ls ms → All (λ m. Below m n) ms → All (λ l. Below l n) ls
+each-below ls ms n r a = each-all Below (λ m. Below m n) (λ l. Below l n) (λ l m b c. below-then l m n b c) ls ms r a
 
 pub highest-below : (ls ms : List ℕ) → All IsLevel ms → EachBelow ls ms → Below (highest ls) (highest ms)
 highest-below ls ms a r = highest-lowest ls (highest ms) (each-below ls ms (highest ms) r (highest-upper ms a))

@@ -8,7 +8,7 @@ use Prim.Native.Nat.{suc, zero, ℕ}
 use Rattle.theory.proofs.ExpandFirst.{eval-good}
 use Rattle.theory.proofs.Lattice.{below-left, below-same, below-zero, higher-of, highest-below}
 use Rattle.theory.proofs.Levels.{levels-kept}
-use Rattle.theory.proofs.Lists.{append-all, replicate-all}
+use Rattle.theory.proofs.Lists.{append-all, each-all, each-append, each-at, each-same, replicate-all}
 use Rattle.theory.proofs.NearestMask.{Leads, PlaceKeeps, at-term, behind-level, binder-level, leads-masks, none-keeps, own-level}
 use Rattle.theory.specs.Lattice.{Below, EachBelow}
 use Rattle.theory.specs.Level.{IsLevel, Mask, bindsIn, variableLevel}
@@ -17,43 +17,23 @@ use Rattle.theory.specs.NearestMask.{Monotone, argumentLevels, behind, m
 use Rattle.theory.specs.Term.{Head, Term, Terms, binder, bound, builtin, declared, defined, leaf, level, longWay, param}
 use Rattle.theory.specs.Tree.{_▹_, count, node, ⟨⟩}
 
-each-level : (ls ms : List ℕ) → All IsLevel ms → EachBelow ls ms → All IsLevel ls
-each-level [] [] a r = tt
-each-level [] (m ∷ ms) a r = absurd r
-each-level (l ∷ ls) [] a r = absurd r
-each-level (l ∷ ls) (m ∷ ms) a r = (omega (arith, r .0 .0, a .0), each-level ls ms (a .1) (r .1))
-
-each-at : (ls ms : List ℕ) (i d : ℕ) → EachBelow ls ms → Below (getD ls i d) (getD ms i d)
-each-at [] [] i d r = below-same d
-each-at [] (m ∷ ms) i d r = absurd r
-each-at (l ∷ ls) [] i d r = absurd r
-each-at (l ∷ ls) (m ∷ ms) zero d r = r .0
-each-at (l ∷ ls) (m ∷ ms) (suc i) d r = each-at ls ms i d (r .1)
-
-each-append : (ls ms ls′ ms′ : List ℕ) → EachBelow ls ms → EachBelow ls′ ms′ → EachBelow (ls ++ ls′) (ms ++ ms′)
-each-append [] [] ls′ ms′ r q = q
-each-append [] (m ∷ ms) ls′ ms′ r q = absurd r
-each-append (l ∷ ls) [] ls′ ms′ r q = absurd r
-each-append (l ∷ ls) (m ∷ ms) ls′ ms′ r q = (r .0, each-append ls ms ls′ ms′ (r .1) q)
-
-each-same : (ls : List ℕ) → EachBelow ls ls
-each-same [] = tt
-each-same (l ∷ ls) = (below-same l, each-same ls)
+pub each-level : (ls ms : List ℕ) → All IsLevel ms → EachBelow ls ms → All IsLevel ls
+each-level ls ms a r = each-all Below IsLevel IsLevel (λ l m b h. omega (arith, b .0)) ls ms r a
 
 each-zero : (ls : List ℕ) → EachBelow (replicate (length ls) 0) ls
 each-zero [] = tt
 each-zero (l ∷ ls) = (below-zero l, each-zero ls)
 
 -- a place that keeps joins keeps the order
-behind-below : (p : Option Mask) → PlaceKeeps p → (k l : ℕ) → IsLevel l → Below k l → Below (behind p k) (behind p l)
+pub behind-below : (p : Option Mask) → PlaceKeeps p → (k l : ℕ) → IsLevel l → Below k l → Below (behind p k) (behind p l)
 behind-below p keeps k l h b =
     let i : IsLevel k = omega (arith, b .0, h) in
     subst (Below (behind p k)) (sym (keeps .joins k l i h) ∙ ap (behind p) (higher-of k l i h b)) (below-left (behind p k) (behind p l) (behind-level p k i) (behind-level p l h))
 
 module _ (v w : List ℕ) (given : All IsLevel w) (lower : EachBelow v w) where
   own-below : (β β′ : List ℕ) (h : Head) (n : ℕ) → EachBelow β β′ → Below (ownLevel v β h n) (ownLevel w β′ h n)
-  own-below β β′ (param i) n r = each-at v w i 4 lower
-  own-below β β′ (bound j) n r = each-at β β′ j 4 r
+  own-below β β′ (param i) n r = each-at Below v w i 4 lower (below-same 4)
+  own-below β β′ (bound j) n r = each-at Below β β′ j 4 r (below-same 4)
   own-below β β′ (declared k x) n r = below-same (ownLevel v β (declared k x) n)
   own-below β β′ (defined g) n r = below-same (ownLevel v β (defined g) n)
   own-below β β′ (builtin c) n r = below-same (ownLevel v β (builtin c) n)
@@ -72,9 +52,9 @@ module _ (v w : List ℕ) (given : All IsLevel w) (lower : EachBelow v w) where
     terms-below (t ▹ ts) [] β β′ x s p b i r n k = tt
     terms-below (t ▹ ts) (m ∷ ms) β β′ x s p b i r n k =
         let new = replicate (s 0) x in
-        each-append (nodeLevels v (new ++ β) (nearest p m) t) (nodeLevels w (new ++ β′) (nearest p m) t) (argumentLevels v β x (λ i. s (suc i)) p ts ms)
+        each-append Below (nodeLevels v (new ++ β) (nearest p m) t) (nodeLevels w (new ++ β′) (nearest p m) t) (argumentLevels v β x (λ i. s (suc i)) p ts ms)
         (argumentLevels w β′ x (λ i. s (suc i)) p ts ms)
-        (term-below t (new ++ β) (new ++ β′) (nearest p m) (append-all IsLevel new β′ (replicate-all IsLevel (s 0) x i) b) (each-append new new β β′ (each-same new) r) (n .0 p k))
+        (term-below t (new ++ β) (new ++ β′) (nearest p m) (append-all IsLevel new β′ (replicate-all IsLevel (s 0) x i) b) (each-append Below new new β β′ (each-same Below new (replicate-all (λ l. Below l l) (s 0) x (below-same x))) r) (n .0 p k))
         (terms-below ts ms β β′ x (λ i. s (suc i)) p b i r (n .1) k)
 
   level-below : (t : Term) → Below (level longWay v t) (level longWay w t)

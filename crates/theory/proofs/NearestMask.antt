@@ -29,7 +29,7 @@ behind-level (some m) l h = go (taken m l)
     go true = lit≤ tt
     go false = lit≤ tt
 
-behinds-level : (p : Option Mask) (ms : List Mask) (ls : List ℕ) → All IsLevel ls → All IsLevel (behinds p ms ls)
+pub behinds-level : (p : Option Mask) (ms : List Mask) (ls : List ℕ) → All IsLevel ls → All IsLevel (behinds p ms ls)
 behinds-level p [] ls a = tt
 behinds-level p (m ∷ ms) [] a = tt
 behinds-level p (m ∷ ms) (l ∷ ls) a = (behind-level (nearest p m) l (a .0), behinds-level p ms ls (a .1))
@@ -37,8 +37,8 @@ behinds-level p (m ∷ ms) (l ∷ ls) a = (behind-level (nearest p m) l (a .0), 
 -- Places: what there is to be above a node
 
 -- the row at the levels of its arguments, below p
-record RowBelow (p : Option Mask) (r : Row) : Type 0 where
-  own : IsLevel (resultLevel (r .result) [])
+pub record RowBelow (p : Option Mask) (r : Row) : Type 0 where
+  pub own : IsLevel (resultLevel (r .result) [])
   law : (ls : List ℕ) → All IsLevel ls → length ls ≡ length (r .takes)
       → behind p (rowLevel (some r) ls) ≡ highest (behind p (resultLevel (r .result) []) ∷ behinds p (r .takes) ls)
 
@@ -47,7 +47,7 @@ pub record PlaceKeeps (p : Option Mask) : Type 0 where
   nought : behind p 0 ≡ 0
   four : behind p 4 ≡ 4
   pub joins : (k l : ℕ) → IsLevel k → IsLevel l → behind p (higher k l) ≡ higher (behind p k) (behind p l)
-  rows : All (RowBelow p) table
+  pub rows : All (RowBelow p) table
 
 -- as a computed test over the table and the levels
 abbrev rowAt : Option Mask → Row → List ℕ → Bool
@@ -93,7 +93,7 @@ abbrev pub Leads : Mask → Type 0
 Leads m = (p : Option Mask) → PlaceKeeps p → PlaceKeeps (nearest p m)
 
 -- every mask of the table does
-leads-table : All (λ (r : Row). All Leads (r .takes)) table
+pub leads-table : All (λ (r : Row). All Leads (r .takes)) table
 unfolding test
 leads-table =
     map-all (λ (r : Row). T (every nearer (r .takes))) (λ r. All Leads (r .takes)) (λ r t. map-all (λ m. T (nearer m)) Leads leads (r .takes) (every-all nearer (r .takes) t)) table
@@ -110,7 +110,7 @@ leads-table =
         go false t = place-keeps (some m) t
 
 -- what holds of every row holds of the one that a code has
-found : (P : Row → Type 0) → All P table → (c : ℕ) (r : Row) → row c ≡ some r → P r
+pub found : (P : Row → Type 0) → All P table → (c : ℕ) (r : Row) → row c ≡ some r → P r
 unfolding row
 found P a c r e = find-has P (has c) table r a e .0
 
@@ -135,7 +135,7 @@ operator p k (l ∷ ls) a =
     ap (behind p) (highest-cons l ls (a .0) (a .1)) ∙ k .joins l (highest ls) (a .0) (highest-level ls (a .1)) ∙ ap (higher (behind p l)) (operator p k ls (a .1))
     ∙ sym (highest-cons (behind p l) (behinds p (replicate (length ls) anyLevel) ls) (behind-level p l (a .0)) (behinds-level p (replicate (length ls) anyLevel) ls (a .1)))
 
-miscounted : (ms : List Mask) (ls : List ℕ) → ¬ (length ls ≡ length ms) → allTaken ms ls ≡ false
+pub miscounted : (ms : List Mask) (ls : List ℕ) → ¬ (length ls ≡ length ms) → allTaken ms ls ≡ false
 miscounted [] [] n = absurd (n refl)
 miscounted [] (l ∷ ls) n = refl
 miscounted (m ∷ ms) [] n = refl
@@ -166,7 +166,7 @@ code-row : (p : Option Mask) → PlaceKeeps p → (o : Option Row) → ((r : Row
 code-row p k none q ls a = lone p 4 (lit≤ tt)
 code-row p k (some r) q ls a = one-row p k r (q r refl) ls a
 
-row-own : (r : Row) (n : ℕ) → IsLevel (resultLevel (r .result) []) → IsLevel (rowOwn (some r) n)
+pub row-own : (r : Row) (n : ℕ) → IsLevel (resultLevel (r .result) []) → IsLevel (rowOwn (some r) n)
 row-own r n h = go (eqb n (length (r .takes)))
   where
     go : (b : Bool) → IsLevel (cond b (resultLevel (r .result) []) 4)

@@ -4,7 +4,7 @@ use mathlib.Core.Path.{_≡_}
 use lib.Dec.{T}
 use Prim.Native.Nat.{_≤_, ℕ}
 use Rattle.theory.specs.Level.{IsLevel, Mask, Row, highest, incorrect, table, taken}
-use Rattle.theory.specs.Lists.{All}
+use Rattle.theory.specs.Lists.{All, Each}
 
 -- l is below m, or is m: it is no higher, and not 2 where m is 3
 abbrev pub Below : ℕ → ℕ → Type 0
@@ -12,10 +12,7 @@ Below l m = (l ≤ m) × (l ≡ 2 → ¬ (m ≡ 3))
 
 -- each level of the one list is below its fellow of the other, and there are as many
 abbrev pub EachBelow : List ℕ → List ℕ → Type 0
-EachBelow [] [] = Unit {0}
-EachBelow [] (m ∷ ms) = ⊥
-EachBelow (l ∷ ls) [] = ⊥
-EachBelow (l ∷ ls) (m ∷ ms) = Below l m × EachBelow ls ms
+EachBelow ls ms = Each Below ls ms
 
 -- the higher of two levels, 4 of a 2 and a 3
 abbrev pub higher : ℕ → ℕ → ℕ
