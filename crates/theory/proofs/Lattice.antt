@@ -15,18 +15,11 @@ use Rattle.theory.specs.Lists.{All, any, every}
 
 -- The order
 
-apart : ¬ (Below 2 3) × ¬ (Below 3 2)
-apart = (λ b. b .1 refl refl, λ b. omega (arith, b .0))
-
 pub below-same : (l : ℕ) → Below l l
 below-same l = (omega arith, λ e f. omega arith)
 
 pub below-then : (l m n : ℕ) → Below l m → Below m n → Below l n
-below-then l m n a b = (omega (arith, a .0, b .0), λ e f. go e f (ℕ-discrete m 2))
-  where
-    go : l ≡ 2 → n ≡ 3 → Dec (m ≡ 2) → ⊥
-    go e f (yes d) = b .1 d f
-    go e f (no d) = a .1 e (omega (arith, a .0, b .0))
+below-then l m n a b = (omega (arith, a .0, b .0), λ e f. elim (ℕ-discrete m 2) [ yes d ↦ b .1 d f | no d ↦ a .1 e (omega (arith, a .0, b .0)) ])
 
 pub below-zero : (l : ℕ) → Below 0 l
 below-zero l = (omega arith, λ e f. omega arith)
@@ -37,11 +30,7 @@ below-incorrect l h = (h, λ e f. omega arith)
 -- The join
 
 below-max : (l m n : ℕ) → Below l n → Below m n → Below (max l m) n
-below-max l m n a b = (omega (arith, a .0, b .0), λ e f. go e f (ℕ-discrete l 2))
-  where
-    go : max l m ≡ 2 → n ≡ 3 → Dec (l ≡ 2) → ⊥
-    go e f (yes d) = a .1 d f
-    go e f (no d) = b .1 (omega arith) f
+below-max l m n a b = (omega (arith, a .0, b .0), λ e f. elim (ℕ-discrete l 2) [ yes d ↦ a .1 d f | no d ↦ b .1 (omega arith) f ])
 
 top-below : (ls : List ℕ) (m : ℕ) → All (λ l. Below l m) ls → Below (top ls) m
 top-below [] m a = below-zero m
@@ -55,8 +44,7 @@ highest-lowest ls m a = go (mixes ls) refl
         let p = and-parts (any (eqb 2) ls) (any (eqb 3) ls) (subst⁻¹ T e tt) in
         let two = any-at (λ l. Below l m) 2 ls a (p .0) in
         let three = any-at (λ l. Below l m) 3 ls a (p .1) in
-        let n : ¬ (m ≡ 3) = two .1 refl in
-        (omega (arith, three .0), λ e f. omega arith)
+        (omega (arith, three .0, two .1 refl), λ e f. omega arith)
     go false e = top-below ls m a
 
 -- each number of a list is in it and no higher than its top; a 3 that is its top is in it
@@ -83,7 +71,7 @@ highest-upper ls a = go (mixes ls) refl
     go true e = map-all IsLevel (λ l. Below l 4) below-incorrect ls a
     go false e =
         map-all (λ l. (l ≤ top ls) × T (any (eqb l) ls)) (λ l. Below l (top ls))
-        (λ l q. (q .0, λ d f. subst T e (and-both (any (eqb 2) ls) (any (eqb 3) ls) (subst (λ (l : ℕ). T (any (eqb l) ls)) d (q .1)) (top-is-3 ls f)))) ls (each-under ls)
+        (λ l q. (q .0, λ d f. subst T e (and-both (any (eqb 2) ls) (any (eqb 3) ls) (subst (λ (l : ℕ). T (any (eqb l) ls)) d (q .1)) (top-is-3 ls (omega (arith, q .0)))))) ls (each-under ls)
 
 -- levels each below its fellow have their highest below the other's
 pub each-below : (ls ms : List ℕ) (n : ℕ) → EachBelow ls ms → All (λ m. Below m n) ms → All (λ l. Below l n) ls
@@ -176,7 +164,7 @@ lattice =
       transitive = below-then;
       least = below-zero;
       greatest = below-incorrect;
-      apart = apart;
+      apart = (λ b. b .1 refl refl, λ b. omega (arith, b .0));
       is-level = highest-level;
       upper = highest-upper;
       lowest-upper = highest-lowest;

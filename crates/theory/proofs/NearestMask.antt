@@ -37,8 +37,8 @@ behinds-level p (m ∷ ms) (l ∷ ls) a = (behind-level (nearest p m) l (a .0), 
 -- Places: what there is to be above a node
 
 -- the row at the levels of its arguments, below p
-pub record RowBelow (p : Option Mask) (r : Row) : Type 0 where
-  pub own : IsLevel (resultLevel (r .result) [])
+record RowBelow (p : Option Mask) (r : Row) : Type 0 where
+  own : IsLevel (resultLevel (r .result) [])
   law : (ls : List ℕ) → All IsLevel ls → length ls ≡ length (r .takes)
       → behind p (rowLevel (some r) ls) ≡ highest (behind p (resultLevel (r .result) []) ∷ behinds p (r .takes) ls)
 
@@ -47,7 +47,7 @@ pub record PlaceKeeps (p : Option Mask) : Type 0 where
   nought : behind p 0 ≡ 0
   four : behind p 4 ≡ 4
   pub joins : (k l : ℕ) → IsLevel k → IsLevel l → behind p (higher k l) ≡ higher (behind p k) (behind p l)
-  pub rows : All (RowBelow p) table
+  rows : All (RowBelow p) table
 
 -- as a computed test over the table and the levels
 abbrev rowAt : Option Mask → Row → List ℕ → Bool
@@ -93,7 +93,7 @@ abbrev pub Leads : Mask → Type 0
 Leads m = (p : Option Mask) → PlaceKeeps p → PlaceKeeps (nearest p m)
 
 -- every mask of the table does
-pub leads-table : All (λ (r : Row). All Leads (r .takes)) table
+leads-table : All (λ (r : Row). All Leads (r .takes)) table
 unfolding test
 leads-table =
     map-all (λ (r : Row). T (every nearer (r .takes))) (λ r. All Leads (r .takes)) (λ r t. map-all (λ m. T (nearer m)) Leads leads (r .takes) (every-all nearer (r .takes) t)) table
@@ -166,7 +166,7 @@ code-row : (p : Option Mask) → PlaceKeeps p → (o : Option Row) → ((r : Row
 code-row p k none q ls a = lone p 4 (lit≤ tt)
 code-row p k (some r) q ls a = one-row p k r (q r refl) ls a
 
-pub row-own : (r : Row) (n : ℕ) → IsLevel (resultLevel (r .result) []) → IsLevel (rowOwn (some r) n)
+row-own : (r : Row) (n : ℕ) → IsLevel (resultLevel (r .result) []) → IsLevel (rowOwn (some r) n)
 row-own r n h = go (eqb n (length (r .takes)))
   where
     go : (b : Bool) → IsLevel (cond b (resultLevel (r .result) []) 4)
@@ -186,7 +186,7 @@ own-level v β (defined g) n a b = lit≤ tt
 own-level v β (builtin c) n a b = code-own (row c) n (found (RowBelow none) (none-keeps .rows) c)
 own-level v β (leaf (literal l)) n a b = lit≤ tt
 
-pub binder-level : (h : Head) → IsLevel (variableLevel (binder h))
+binder-level : (h : Head) → IsLevel (variableLevel (binder h))
 binder-level (param i) = lit≤ tt
 binder-level (bound j) = lit≤ tt
 binder-level (declared k x) = lit≤ tt
@@ -229,7 +229,7 @@ module _ (v : List ℕ) (given : All IsLevel v) where
   one-node p k β (leaf (literal n)) ts b a = lone p 0 (lit≤ tt)
 
   mutual
-    pub at-term : (t : Term) (β : List ℕ) (p : Option Mask) → All IsLevel β → PlaceKeeps p
+    at-term : (t : Term) (β : List ℕ) (p : Option Mask) → All IsLevel β → PlaceKeeps p
         → All IsLevel (nodeLevels v β p t) × (behind p (eval longWay v β t) ≡ highest (nodeLevels v β p t))
     at-term (node h ts) β p b k =
         let w = variableLevel (binder h) in
