@@ -31,7 +31,7 @@ module _ (σ : Kind → ℕ → Term) (p : ℕ) where
       subst (λ (q : ℕ). level longWay (allAtZero p ++ v) (instantiate σ q t) ≡ level (withDeclared longWay read) v t) (length-replicate p 0)
       (instantiation longWay σ noDefinitions noDefinitions (allAtZero p) v n 0 [] t (rw length-replicate ok) w)
 
-  -- a name without arguments
+  -- of a name without arguments: the level that is judged
   read-alone : (k : Kind) (x : ℕ) (ls : List ℕ) → kindArity k ≡ 0 → length ls ≡ 0 → read k x ls ≡ substituted σ p k x
   read-alone k x [] e l = rw (e, ← (replicate-append-replicate {A = ℕ} p 0 0))
   read-alone k x (m ∷ ls) e l = absurd (omega arith)
@@ -49,21 +49,21 @@ module _ (σ : Kind → ℕ → Term) (p : ℕ) where
       names k variable x ls ms l a r = rw (read-alone variable x ls refl l) (omega (arith, lawful .variables x), λ e f. omega arith)
 
   module _ (subs : List ℕ) (lawful : ConstantSubstitutes σ p subs) where
-    isLevel : All IsLevel subs
-    isLevel = map-all (λ l. l < incorrect) IsLevel (λ l h. omega arith) subs (lawful .not-incorrect)
+    levels : All IsLevel subs
+    levels = map-all (λ l. l < incorrect) IsLevel (λ l h. omega arith) subs (lawful .not-incorrect)
 
     constant-module : (n : ℕ) (t : Term) → Formed σ p → WellFormed noDefinitions n 0 t → level longWay (allAtZero n) t ≡ 0
         → Below (level longWay (allAtZero (p + n)) (instantiate σ p t)) (highest subs)
     constant-module n t ok w e =
         rw (← (replicate-append-replicate {A = ℕ} p n 0), instance-read n (allAtZero n) t ok w)
-        (constant-under (highest subs) (highest-level subs isLevel) read constants n (allAtZero n) t (length-replicate n 0) (replicate-all (λ l. Below l (highest subs)) n 0 (below-zero (highest subs))) w e)
+        (constant-under (highest subs) (highest-level subs levels) read constants n (allAtZero n) t (length-replicate n 0) (replicate-all (λ l. Below l (highest subs)) n 0 (below-zero (highest subs))) w e)
       where
         constants : (n x : ℕ) (ls : List ℕ) → length ls ≡ n → All (λ l. Below l (highest subs)) ls → Below (read (constant n) x ls) (highest subs)
         constants zero x ls l b =
             rw (read-alone (constant 0) x ls refl l)
-            (any-at (λ l. Below l (highest subs)) (substituted σ p (constant 0) x) (0 ∷ subs) (below-zero (highest subs), highest-upper subs isLevel) (lawful .constants x))
+            (any-at (λ l. Below l (highest subs)) (substituted σ p (constant 0) x) (0 ∷ subs) (below-zero (highest subs), highest-upper subs levels) (lawful .constants x))
         constants (suc n) x ls l b =
-            operator-under (highest subs) (highest-level subs isLevel) p (suc n) (σ (constant (suc n)) x) ls (ok (constant (suc n)) x) (omega (arith, lawful .operators n x)) l b
+            operator-under (highest subs) (highest-level subs levels) p (suc n) (σ (constant (suc n)) x) ls (ok (constant (suc n)) x) (omega (arith, lawful .operators n x)) l b
 
     substitutes-lawful : highest subs < incorrect
     substitutes-lawful = go (mixes subs) refl
