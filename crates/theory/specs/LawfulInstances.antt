@@ -16,7 +16,7 @@ use Rattle.theory.specs.Term.{Kind, Term, WellFormed, constant, kindArit
 abbrev pub allAtZero : ℕ → List ℕ
 allAtZero n = replicate n 0
 
--- What an instance with p parameters puts for the declared names, each over its parameters and then k more.
+-- What an instance with p parameters puts for the declared names: for one with k arguments a term "over the instance's parameters and then k more".
 abbrev pub Formed : (Kind → ℕ → Term) → ℕ → Type 0
 Formed σ p = (k : Kind) (x : ℕ) → WellFormed noDefinitions (p + kindArity k) 0 (σ k x)
 
