@@ -49,6 +49,8 @@ pub enum Substitute {
 /// An INSTANCE field that was accepted.
 #[derive(Clone, Debug)]
 pub struct Instance {
+    /// The field's number.
+    pub field: u32,
     pub module: usize,
     pub parameters: u8,
     /// Number of the first definition brought.

@@ -68,6 +68,11 @@ impl<'a> Fields<'a> {
         Fields { file, at: 0 }
     }
 
+    /// Bytes of the fields read so far; one whose payload is not all there is not counted.
+    pub fn at(&self) -> usize {
+        self.at
+    }
+
     /// Reads the next field: `None` at the end of the file, `Some(None)` for a broken layout.
     pub fn read(&mut self) -> Option<Option<Field<'a>>> {
         if self.at == self.file.len() {

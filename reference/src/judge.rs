@@ -1,5 +1,5 @@
 //! Judges a file field by field; within a field the causes come in the order of the code below. That is
-//! the order of their numbers, but for cause 21: an INSTANCE is judged by 4, 5, 7 to 12, 14, 21, 15, 16.
+//! the order of their numbers, but for cause 21: an INSTANCE is judged by 4, 5, 7 to 12, 14, 21, 16.
 
 use crate::context::{
     Declaration, Definition, Dictionary, Entity, Instance, Module, Scope, Substitute, Tables,
@@ -23,42 +23,88 @@ pub struct Program {
     pub cards: Vec<Card>,
 }
 
+/// By what the substitutes of an INSTANCE are lawful. The second opinion is tried with other rules than
+/// the papers'.
+#[derive(Clone, Copy, Debug, PartialEq, Eq)]
+pub struct Rules {
+    /// The highest level that an operator takes, in every module.
+    pub operator: u8,
+    /// The highest level that a variable takes in a module that is not constant.
+    pub variable: u8,
+    /// The highest level that a constant takes there.
+    pub constant: u8,
+    /// Whether cause 21 is judged.
+    pub mixed: bool,
+    /// Whether cause 16 is judged.
+    pub named_inside: bool,
+}
+
+impl Rules {
+    /// "In a module that is not constant, a constant takes level 0 and a variable 0 or 1. In every module
+    /// an operator takes a substitute of level 0. Otherwise any level but 4."
+    pub const PAPERS: Rules = Rules {
+        operator: 0,
+        variable: 1,
+        constant: 0,
+        mixed: true,
+        named_inside: true,
+    };
+}
+
+/// What came of a file.
+pub struct Judged {
+    /// What its fields added, up to the first at fault.
+    pub program: Program,
+    pub refusal: Option<Refusal>,
+    /// Bytes up to the end of the last field that was judged.
+    pub read: usize,
+}
+
 impl Program {
     /// Judges a file.
     pub fn judge(file: &[u8]) -> Result<Program, Refusal> {
-        Self::judge_by(file, Judge::new())
+        Self::judge_by(Rules::PAPERS, file).accepted()
     }
 
     /// Judges a file without cause 16, so that the definitions brought on can be looked at.
     #[cfg(test)]
     pub fn judge_leniently(file: &[u8]) -> Result<Program, Refusal> {
-        let mut judge = Judge::new();
-        judge.lenient = true;
-        Self::judge_by(file, judge)
+        let lenient = Rules {
+            named_inside: false,
+            ..Rules::PAPERS
+        };
+        Self::judge_by(lenient, file).accepted()
     }
 
-    fn judge_by(file: &[u8], mut judge: Judge) -> Result<Program, Refusal> {
+    /// Judges a file by these rules.
+    pub fn judge_by(rules: Rules, file: &[u8]) -> Judged {
+        let mut judge = Judge::new(rules);
         if file.is_empty() || file.len() > Limits::FILE {
-            return Err(Cause::FileSize.at(0));
+            return judge.done(Some(Cause::FileSize.at(0)), 0);
         }
         let mut fields = Fields::new(file);
-        let mut number = 0;
         while let Some(field) = fields.read() {
             let verdict = match field {
                 None => Err(Cause::Layout),
                 Some(field) => judge.field(field),
             };
-            verdict.map_err(|cause| cause.at(number))?;
-            number += 1;
+            if let Err(cause) = verdict {
+                let refusal = cause.at(judge.number);
+                return judge.done(Some(refusal), fields.at());
+            }
+            judge.number += 1;
         }
-        match judge.state {
-            State::Outside => Ok(Program {
-                fields: number,
-                tables: judge.tables,
-                texts: judge.texts,
-                cards: judge.cards,
-            }),
-            State::Begun | State::Inside => Err(Cause::Order.at(number)),
+        let open = judge.state != State::Outside;
+        let refusal = open.then(|| Cause::Order.at(judge.number));
+        judge.done(refusal, fields.at())
+    }
+}
+
+impl Judged {
+    fn accepted(self) -> Result<Program, Refusal> {
+        match self.refusal {
+            None => Ok(self.program),
+            Some(refusal) => Err(refusal),
         }
     }
 }
@@ -74,6 +120,9 @@ enum State {
 }
 
 struct Judge {
+    rules: Rules,
+    /// The number of the field being judged.
+    number: usize,
     state: State,
     tables: Tables,
     texts: Texts,
@@ -82,7 +131,6 @@ struct Judge {
     /// The module being read, if any.
     current: Module,
     dictionary: Dictionary,
-    lenient: bool,
 }
 
 /// Turns down with a cause if it holds.
@@ -95,8 +143,10 @@ fn refuse_if(holds: bool, cause: Cause) -> Result<(), Cause> {
 }
 
 impl Judge {
-    fn new() -> Self {
+    fn new(rules: Rules) -> Self {
         Judge {
+            rules,
+            number: 0,
             state: State::Outside,
             tables: Tables::new(),
             texts: Texts::default(),
@@ -104,7 +154,19 @@ impl Judge {
             cards: Vec::new(),
             current: Module::new(0),
             dictionary: Dictionary::new(),
-            lenient: false,
+        }
+    }
+
+    fn done(self, refusal: Option<Refusal>, read: usize) -> Judged {
+        Judged {
+            program: Program {
+                fields: self.number,
+                tables: self.tables,
+                texts: self.texts,
+                cards: self.cards,
+            },
+            refusal,
+            read,
         }
     }
 
@@ -302,7 +364,13 @@ impl Judge {
         self.instance_names(&field, module)?;
         let substitutes = self.substitutes(&field, module)?;
         self.substitute_levels(module, &substitutes)?;
-        self.bring(&field, module, substitutes)
+        let named_inside = self.tables.modules[module].has_instance;
+        refuse_if(
+            named_inside && self.rules.named_inside,
+            Cause::NamedInstance,
+        )?;
+        self.bring(&field, module, substitutes);
+        Ok(())
     }
 
     /// The declaration of this name in an ended module.
@@ -406,18 +474,20 @@ impl Judge {
             refuse_if(level == 4, Cause::NotLevelCorrect)?;
             let declaration = &self.tables.declarations[id as usize];
             let most = if declaration.count > 0 {
-                0
+                self.rules.operator
             } else if module.constant {
                 3
+            } else if declaration.variable {
+                self.rules.variable
             } else {
-                declaration.variable as u8
+                self.rules.constant
             };
             unlawful |= level > most;
             action |= level == 2;
             temporal |= level == 3;
         }
         refuse_if(unlawful, Cause::SubstituteLevel)?;
-        let mixed = action && temporal;
+        let mixed = self.rules.mixed && action && temporal;
         refuse_if(module.constant && mixed, Cause::MixedSubstitutes)
     }
 
@@ -427,11 +497,12 @@ impl Judge {
         field: &InstanceField,
         module: usize,
         substitutes: Vec<Option<Substitute>>,
-    ) -> Result<(), Cause> {
+    ) {
         let instance = self.tables.instances.len() as u16;
         let start = self.tables.definitions.len();
         let order = self.tables.modules[module].order.clone();
         self.tables.instances.push(Instance {
+            field: self.number as u32,
             module,
             parameters: field.parameters,
             start: start as u16,
@@ -454,10 +525,6 @@ impl Judge {
             });
         }
         self.forms.forget_substitutes();
-        let wrong = self.cards[start..].iter().any(|card| card[0] == 4);
-        refuse_if(wrong, Cause::BroughtLevel)?;
-        let named_inside = self.tables.modules[module].has_instance;
-        refuse_if(named_inside && !self.lenient, Cause::NamedInstance)?;
         if field.name != 0 {
             self.current.has_instance = true;
             self.add(field.name, Entity::Instance(instance));
@@ -468,7 +535,6 @@ impl Judge {
                 self.add(name, Entity::Operator(operator));
             }
         }
-        Ok(())
     }
 }
 

@@ -16,11 +16,13 @@ mod packed;
 mod queries;
 mod refusal;
 mod rows;
+mod staying_lawful;
 mod summaries;
 
 #[cfg(test)]
 mod tests;
 
+pub use judge::Rules;
 pub use limits::Limits;
 pub use listing::listing;
 pub use packed::{packed_alike, packed_body, packed_check, packed_expand, packed_level};
@@ -28,3 +30,4 @@ pub use queries::{
     alike, body, check, expand, level, long_way, long_way_definition, long_way_expansion,
 };
 pub use refusal::{Cause, Refusal};
+pub use staying_lawful::{staying_lawful, staying_lawful_by, Breach, Broken, Opinion, Seen};

@@ -162,7 +162,7 @@ impl<'p> LongWay<'p> {
     }
 
     /// The expansion of a substitute, over the instance's parameters and its arguments.
-    fn substitute(&self, substitute: Substitute, own: usize, count: u8) -> Option<Tree> {
+    pub fn substitute(&self, substitute: Substitute, own: usize, count: u8) -> Option<Tree> {
         let arguments = (0..count as usize).map(|index| vec![Item::Parameter(own + index)]);
         match substitute {
             Substitute::Written(text) => self.expand(text),
@@ -270,7 +270,7 @@ impl<'p> LongWay<'p> {
 }
 
 /// The highest of the levels, 0 if there are none; 4 if they hold a 2 and a 3.
-fn highest(levels: &[u8]) -> u8 {
+pub fn highest(levels: &[u8]) -> u8 {
     if levels.contains(&2) && levels.contains(&3) {
         return 4;
     }

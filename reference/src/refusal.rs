@@ -1,7 +1,7 @@
 //! Causes and refusals.
 
 /// What can be wrong with a file or a query. The order in which causes are judged is that of `judge`
-/// and `queries`; a number says nothing of it.
+/// and `queries`; a number says nothing of it. The number 15 is not used.
 #[derive(Clone, Copy, Debug, PartialEq, Eq)]
 #[repr(u32)]
 pub enum Cause {
@@ -19,7 +19,6 @@ pub enum Cause {
     NotLevelCorrect = 12,
     AssumeLevel = 13,
     SubstituteLevel = 14,
-    BroughtLevel = 15,
     NamedInstance = 16,
     NoSuch = 17,
     TooLong = 18,

@@ -854,7 +854,7 @@ fn cause_21_of_extended_names() {
 
 #[test]
 fn cause_16() {
-    // What cause 15 was for: a 2 beside a 3 below an operator is 4 where it is written.
+    // A 2 beside a 3 below an operator is 4 where it is written, so no instance brings it.
     let body = |first: Bytes| always(n(1, &[first, prime(n(2, &[]))]));
     let inner = |d: Bytes| vec![module(1), constant(1, 2), variable(2), def(3, 0, d), end()];
     expect(vec![

@@ -200,8 +200,8 @@ fn instance_field(random: &mut Random, program: &Program, words: &Vocabulary) ->
         let count = parameters as usize + declaration.count as usize;
         let deep = random.below(3);
         let substitute = expression(random, words, count, 0, deep);
-        // A constant module may take any of them, but not a 2 beside a 3.
-        let high = module.constant && declaration.count == 0;
+        // A constant module may take any of them, but not a 2 beside a 3; in others they are unlawful.
+        let high = module.constant && declaration.count == 0 || random.chance(10);
         let substitute = match random.below(8) {
             0 | 1 if high => prime(substitute),
             2 | 3 if high => always(substitute),

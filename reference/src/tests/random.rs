@@ -8,7 +8,8 @@ use crate::expressions::{Node, Operator};
 use crate::judge::Program;
 use crate::levels::{declared_level, entries, entry};
 use crate::long_way::LongWay;
-use crate::{check, expand, level, rows, Cause, Limits, Refusal};
+use crate::{check, expand, level, rows, staying_lawful, staying_lawful_by};
+use crate::{Cause, Limits, Refusal, Rules, Seen};
 
 const FUEL: usize = 3_000;
 
@@ -227,7 +228,7 @@ fn refused(file: &[u8], seen: &mut [usize; 22]) {
         }
         Err(refusal) => refusal,
     };
-    // Cause 15 was never seen in a file that 14 and 21 let through.
+    // The number 15 is not used.
     assert!(matches!(refusal.number, 2..=14 | 16 | 21));
     assert!(cards[..Limits::CARDS].iter().all(|&b| b == 0));
     assert!(cards[Limits::CARDS..].iter().all(|&b| b == 0xEE));
@@ -400,6 +401,74 @@ fn mixed_substitutes() {
     }
     println!("{tally:?} {mixed} {lawful}");
     assert!(mixed > 300 && lawful > 300 && tally.brought > 300);
+}
+
+/// Generated files, accepted or not.
+fn files_of_all_kinds(look: &mut dyn FnMut(&[u8])) {
+    for seed in 1..=400 {
+        let file = gen::grow(&mut Random::new(seed), Program::judge, look);
+        look(&file);
+    }
+    for seed in 1..=500 {
+        look(&gen::delicate_file(&mut Random::new(seed)));
+        look(&gen::mixing_file(&mut Random::new(seed)).0);
+    }
+}
+
+/// Cause 15 never held. By any wrong rule of what is lawful it would have, or a level would have risen.
+#[test]
+fn lawful_instances_stay_lawful() {
+    let mut seen = Seen::default();
+    files_of_all_kinds(&mut |file| {
+        let opinion = staying_lawful(file, FUEL);
+        assert_eq!(opinion.broken, [], "{file:?}");
+        seen += opinion.seen;
+    });
+    println!("{seen:?}");
+    let [constant, other] = [seen.constant, seen.other];
+    assert!(constant[1..].iter().flatten().all(|&count| count == 0));
+    assert!(constant[0][..4].iter().all(|&count| count > 30));
+    assert!((0..4).all(|level| other[level][level] > 30));
+    assert!(other[1][0] > 30 && other[2][0] > 10 && other[3][0] > 10);
+    assert!(seen.named_inside > 100 && seen.chained > 500 && seen.below > 30);
+    let papers = Rules::PAPERS;
+    for wrong in [
+        Rules {
+            variable: 2,
+            ..papers
+        },
+        Rules {
+            variable: 3,
+            ..papers
+        },
+        Rules {
+            constant: 1,
+            ..papers
+        },
+        Rules {
+            operator: 1,
+            ..papers
+        },
+        Rules {
+            operator: 2,
+            ..papers
+        },
+        Rules {
+            operator: 3,
+            ..papers
+        },
+        Rules {
+            mixed: false,
+            ..papers
+        },
+    ] {
+        let mut broken = 0;
+        files_of_all_kinds(&mut |file| {
+            broken += staying_lawful_by(wrong, file, FUEL).broken.len();
+        });
+        println!("{wrong:?}: {broken}");
+        assert!(broken > 0, "{wrong:?}");
+    }
 }
 
 #[test]
