@@ -1,5 +1,5 @@
 //! A second judge of what hangs on levels, as plain as can be: every entry of every card worked out by
-//! itself, and the causes 12 to 16 and 21. The other causes of a file do not hang on levels, so the
+//! itself, and the causes 12, 13, 14, 16 and 21. The other causes of a file do not hang on levels, so the
 //! reference is asked for them with all levels taken out. The rules may be misread on purpose.
 
 use crate::accepted::LARGEST;
@@ -13,7 +13,7 @@ const SLOTS: usize = 6;
 
 const ENABLED: u8 = 113;
 
-/// A wrong reading of request L5.
+/// A wrong reading of request L5 or L6.
 #[derive(Clone, Copy, Debug, PartialEq, Eq)]
 pub enum Misreading {
     /// Of a 2 and a 3 the highest is 3.
@@ -38,8 +38,6 @@ pub enum Misreading {
     AnyModule,
     /// It is judged before 14.
     BeforeFourteen,
-    /// It is judged after 15.
-    AfterFifteen,
     /// It is judged after 16.
     AfterSixteen,
     /// Names that stand for themselves do not count for it.
@@ -56,6 +54,22 @@ pub enum Misreading {
     FirstCome,
     /// What earlier INSTANCEs of the same module put in counts for it too.
     EveryInstance,
+    /// A brought definition at 4 is refused with 15, and before 21.
+    FifteenFirst,
+    /// A brought definition at 4 is refused with 12, as if it were a body.
+    BroughtAsBody,
+    /// What an INSTANCE brings decides alone: 15 if some of it is 4, and neither 14 nor 21.
+    ByOutcome,
+    /// A brought definition that is higher than in its own module is refused, if that is constant too.
+    NoRise,
+    /// One that is above the highest substitute is refused, if its own module is not constant too.
+    NoneAbove,
+    /// In a constant module, one that is above the highest substitute that is written is refused.
+    NoneAboveWritten,
+    /// One that is a 3 in its own module and no longer a 3 is refused.
+    ThreeStays,
+    /// One that is 4 with the instance's parameters at 2 is refused.
+    BroughtOverParameters,
 }
 
 /// Where levels meet.
@@ -170,15 +184,62 @@ impl Book {
         self.misreading == Some(misreading)
     }
 
-    /// The causes of an INSTANCE that hang on levels, and 16, in the order in which they are judged.
-    fn order(&self, constant: bool) -> [u32; 5] {
+    /// The causes of an INSTANCE that hang on levels, and 16, in the order in which they are judged; 15 is
+    /// among them only where it is misread.
+    fn order(&self, constant: bool) -> &'static [u32] {
         match self.misreading {
-            Some(Misreading::AnyModule) if !constant => [12, 21, 14, 15, 16],
-            Some(Misreading::BeforeFourteen) => [12, 21, 14, 15, 16],
-            Some(Misreading::AfterFifteen) => [12, 14, 15, 21, 16],
-            Some(Misreading::AfterSixteen) => [12, 14, 16, 21, 15],
-            _ => [12, 14, 21, 15, 16],
+            Some(Misreading::AnyModule) if !constant => &[12, 21, 14, 16],
+            Some(Misreading::BeforeFourteen) => &[12, 21, 14, 16],
+            Some(Misreading::AfterSixteen) => &[12, 14, 16, 21],
+            Some(Misreading::FifteenFirst) => &[12, 14, 15, 21, 16],
+            Some(Misreading::ByOutcome) => &[12, 15, 16],
+            Some(
+                Misreading::NoRise
+                | Misreading::NoneAbove
+                | Misreading::NoneAboveWritten
+                | Misreading::ThreeStays
+                | Misreading::BroughtOverParameters,
+            ) => &[12, 14, 21, 15, 16],
+            _ => &[12, 14, 21, 16],
         }
+    }
+
+    /// What a misreading of L6 makes of the definitions that the last INSTANCE brings.
+    fn misread_brought(&self, module: &Module) -> Option<u32> {
+        let last = self.instances.last().expect("an INSTANCE");
+        let zeros = [0; SLOTS];
+        let highest = |written_only: bool| {
+            let declared = module.scope.declared.iter();
+            let counted = declared.filter(|each| !written_only || last.written(each).is_some());
+            let levels = counted.map(|each| self.substitute(last, each, &zeros));
+            rows::highest(&levels.collect::<Vec<_>>())
+        };
+        let holds = |place: usize, original: usize| {
+            let number = last.start + place;
+            let (own, brought) = (self.model.card(original)[0], self.model.card(number)[0]);
+            match self.misreading {
+                Some(
+                    Misreading::FifteenFirst | Misreading::BroughtAsBody | Misreading::ByOutcome,
+                ) => brought == 4,
+                Some(Misreading::NoRise) => brought > own,
+                Some(Misreading::NoneAbove) => brought > highest(false),
+                Some(Misreading::NoneAboveWritten) => module.constant && brought > highest(true),
+                Some(Misreading::ThreeStays) => own == 3 && brought != 3,
+                Some(Misreading::BroughtOverParameters) => {
+                    let count = self.model.definitions[number].parameters as usize;
+                    let mut levels = vec![0; count];
+                    levels[..last.parameters].fill(2);
+                    self.model.card(number)[entry(&levels)] == 4
+                }
+                _ => false,
+            }
+        };
+        let mut order = last.order.iter().enumerate();
+        let found = order.any(|(place, &original)| holds(place, original));
+        found.then_some(match self.misreading {
+            Some(Misreading::BroughtAsBody) => 12,
+            _ => 15,
+        })
     }
 
     /// Takes a field in and gives its cause, if it has one; `named` says that an INSTANCE has cause 16.
@@ -201,9 +262,8 @@ impl Book {
         }
         self.model.add(field);
         (first..self.texts.len()).for_each(|number| self.fill(number));
-        let wrong = (first..self.texts.len()).any(|number| self.model.card(number)[0] == 4);
         match field {
-            Field::Definition(..) => wrong.then_some(12),
+            Field::Definition(..) => (self.model.card(first)[0] == 4).then_some(12),
             Field::Assume(formula) | Field::Theorem(formula) => {
                 match self.at_zero(formula, &scope) {
                     4 => Some(12),
@@ -214,9 +274,9 @@ impl Book {
             Field::Instance { module, .. } => {
                 let module = self.model.module(*module).expect("ended earlier");
                 let mut holds = self.substitutes(module);
-                holds.extend(wrong.then_some(15));
+                holds.extend(self.misread_brought(module));
                 holds.extend(named.then_some(16));
-                let mut order = self.order(module.constant).into_iter();
+                let mut order = self.order(module.constant).iter().copied();
                 order.find(|cause| holds.contains(cause))
             }
             _ => None,
@@ -450,6 +510,44 @@ impl Book {
         match mixed {
             true => 4,
             false => levels.iter().copied().max().unwrap_or(0),
+        }
+    }
+}
+
+#[cfg(test)]
+mod tests {
+    use super::*;
+    use crate::syntax::{always, instance, n, p, prime};
+
+    /// Without L5 there would be no L6. Were a 2 beside a 3 a 3, an operator that takes the 2 alone would
+    /// make a 2 of the 3; and below [], which takes no 2, a 4.
+    #[test]
+    fn lawful_instances_need_kinds_kept_apart() {
+        const K: u16 = 1;
+        const U: u16 = 2;
+        const D: u16 = 3;
+        let file = |around: fn(Expr) -> Expr| {
+            let u = || n(U, &[]);
+            syntax::file(&[
+                Field::Module(1),
+                Field::Constant(K, 2),
+                Field::Variable(U),
+                Field::Definition(D, 0, around(n(K, &[prime(u()), always(u())]))),
+                Field::End,
+                Field::Module(2),
+                Field::Variable(U),
+                instance(0, 0, 1, &[(K, p(0))]),
+                Field::End,
+            ])
+        };
+        for (around, brought) in [((|body| body) as fn(Expr) -> Expr, 2), (always, 4)] {
+            let file = file(around);
+            let judged = judge(&file, None).expect("small");
+            assert_eq!(judged.err(), Some((12, 3)));
+            let judged = judge(&file, Some(Misreading::NoMixing)).expect("small");
+            let book = judged.ok().expect("accepted by the misreading");
+            assert_eq!(book.model.card(0)[0], 3);
+            assert_eq!(book.model.card(1)[0], brought);
         }
     }
 }

@@ -3,6 +3,7 @@
 use crate::cases::{Call, Case, Outcome};
 use crate::checker::Offer;
 use crate::faults;
+use crate::lawful::{self, MOVES};
 use crate::limits;
 use crate::mixed_substitutes;
 use crate::mixing;
@@ -10,6 +11,7 @@ use crate::model::{Meaning, Model, Module, Operator, Scope};
 use crate::rows;
 use crate::substitutes;
 use crate::syntax::{Expr, Field};
+use reference::Seen;
 use std::collections::{BTreeMap, BTreeSet};
 use std::fmt::{self, Display, Formatter};
 
@@ -23,14 +25,21 @@ pub enum Section {
     Substitute,
     Mixing,
     MixedSubstitutes,
+    Lawful,
+    /// What the second opinion on lawful instances looked at.
+    Staying,
     Query,
 }
 
-/// The causes that there are. No file is known that is refused with 15: a run with one fails.
-const CAUSES: [u32; 19] = [
-    1, 2, 3, 4, 5, 6, 7, 8, 9, 10, 11, 12, 13, 14, 15, 16, 17, 18, 21,
+/// The causes that there are.
+const CAUSES: [u32; 18] = [
+    1, 2, 3, 4, 5, 6, 7, 8, 9, 10, 11, 12, 13, 14, 16, 17, 18, 21,
 ];
-const UNSEEN: u32 = 15;
+/// No reply has this number: a run with one fails.
+const UNUSED: u32 = 15;
+
+/// Fewest of each kind that the second opinion has to look at.
+const FEWEST: u64 = 20;
 
 /// Counts of what occurred.
 #[derive(Clone, Debug, Default, PartialEq, Eq)]
@@ -186,7 +195,6 @@ const QUERIES: [&str; 50] = [
 pub fn required(asked: Offer) -> Vec<(Section, String)> {
     let mut all = Vec::new();
     let causes = CAUSES.iter().filter(|&&cause| match cause {
-        UNSEEN => false,
         17 => asked >= Offer::Queries,
         18 => asked >= Offer::Expansions,
         _ => true,
@@ -202,6 +210,10 @@ pub fn required(asked: Offer) -> Vec<(Section, String)> {
     all.extend(mixing.map(|label| (Section::Mixing, label)));
     let substitutes = mixed_substitutes::labels().into_iter();
     all.extend(substitutes.map(|label| (Section::MixedSubstitutes, label)));
+    let lawful = lawful::labels().into_iter();
+    all.extend(lawful.map(|label| (Section::Lawful, label)));
+    let staying = looked_at(&Seen::default()).into_iter();
+    all.extend(staying.map(|(what, _)| (Section::Staying, what)));
     if asked > Offer::Checks {
         let kinds = QUERIES.iter().filter(|what| {
             let expansion = what.starts_with("expand");
@@ -212,7 +224,29 @@ pub fn required(asked: Offer) -> Vec<(Section, String)> {
     all
 }
 
+/// What the second opinion looked at, by kind.
+fn looked_at(seen: &Seen) -> Vec<(String, u64)> {
+    let mut all = vec![
+        ("INSTANCE".to_string(), seen.instances),
+        ("INSTANCE, and 16".to_string(), seen.named_inside),
+        ("definition brought on".to_string(), seen.chained),
+        (
+            "constant module, below the highest substitute".to_string(),
+            seen.below,
+        ),
+    ];
+    all.extend(MOVES.iter().map(|only| (only.label(), only.count(seen))));
+    all
+}
+
 impl Coverage {
+    /// Adds what the second opinion looked at.
+    pub fn staying(&mut self, seen: &Seen) {
+        for (what, count) in looked_at(seen) {
+            *self.counts.entry((Section::Staying, what)).or_insert(0) += count;
+        }
+    }
+
     pub fn count(&mut self, section: Section, what: impl Into<String>) {
         *self.counts.entry((section, what.into())).or_insert(0) += 1;
     }
@@ -222,17 +256,21 @@ impl Coverage {
         found.copied().unwrap_or(0)
     }
 
-    /// What has to occur and did not, and cause 15 if it did.
+    /// What has to occur and did not, or not often enough, and the number 15 if it did.
     pub fn missing(&self, asked: Offer) -> Vec<String> {
         let required = required(asked).into_iter();
         let mut missing: Vec<String> = required
-            .filter(|key| !self.counts.contains_key(key))
+            .filter(|(section, what)| {
+                let fewest = match section {
+                    Section::Staying => FEWEST,
+                    _ => 1,
+                };
+                self.get(*section, what) < fewest
+            })
             .map(|(section, what)| format!("{section:?}: {what}"))
             .collect();
-        if self.get(Section::Cause, &UNSEEN.to_string()) > 0 {
-            missing.push(format!(
-                "Cause: {UNSEEN} occurred, and no file is known that is refused with it"
-            ));
+        if self.get(Section::Cause, &UNUSED.to_string()) > 0 {
+            missing.push(format!("Cause: {UNUSED} occurred, which is not used"));
         }
         missing
     }
@@ -665,7 +703,7 @@ impl Display for Coverage {
         let count = |cause: u32| self.get(Section::Cause, &cause.to_string());
         let causes = CAUSES.map(|cause| format!("{cause}: {}", count(cause)));
         writeln!(f, "refusals by cause: {}", causes.join(", "))?;
-        for section in [Section::Construct, Section::Query] {
+        for section in [Section::Construct, Section::Staying, Section::Query] {
             let counts = self.section(section);
             writeln!(f, "{section:?}, {} kinds:", counts.len())?;
             for (what, count) in counts {
@@ -678,6 +716,7 @@ impl Display for Coverage {
             Section::Substitute,
             Section::Mixing,
             Section::MixedSubstitutes,
+            Section::Lawful,
         ] {
             let counts = self.section(section);
             let fewest = counts.iter().map(|(_, count)| count).min().unwrap_or(&0);

@@ -21,7 +21,7 @@ pub enum Kind {
     Theorem,
 }
 
-/// The causes that a field can have, 15 left out: no file is known that is refused with it.
+/// The causes that a field can have.
 pub const OF_FIELDS: [u32; 14] = [3, 4, 5, 6, 7, 8, 9, 10, 11, 12, 13, 14, 16, 21];
 
 /// For each kind of field the causes that can hold of it, in the order in which they are judged.

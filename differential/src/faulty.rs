@@ -88,7 +88,7 @@ pub enum Fault {
 }
 
 /// Every fault with its name.
-pub const FAULTS: [(&str, Fault); 63] = [
+pub const FAULTS: [(&str, Fault); 70] = [
     ("place-next", Fault::PlaceNext),
     ("place-of-open-file", Fault::PlaceOfOpenFile),
     ("place-of-eighteen", Fault::PlaceOfEighteen),
@@ -155,7 +155,6 @@ pub const FAULTS: [(&str, Fault); 63] = [
     ("21-unjudged", Fault::Misread(Misreading::NoTwentyOne)),
     ("21-of-any-module", Fault::Misread(Misreading::AnyModule)),
     ("21-before-14", Fault::Misread(Misreading::BeforeFourteen)),
-    ("21-after-15", Fault::Misread(Misreading::AfterFifteen)),
     ("21-after-16", Fault::Misread(Misreading::AfterSixteen)),
     ("21-of-written", Fault::Misread(Misreading::WrittenOnly)),
     ("21-of-used", Fault::Misread(Misreading::UsedOnly)),
@@ -175,6 +174,23 @@ pub const FAULTS: [(&str, Fault); 63] = [
     (
         "21-of-every-instance",
         Fault::Misread(Misreading::EveryInstance),
+    ),
+    ("15-before-21", Fault::Misread(Misreading::FifteenFirst)),
+    ("12-of-brought", Fault::Misread(Misreading::BroughtAsBody)),
+    ("lawful-by-outcome", Fault::Misread(Misreading::ByOutcome)),
+    ("no-rise", Fault::Misread(Misreading::NoRise)),
+    (
+        "none-above-substitutes",
+        Fault::Misread(Misreading::NoneAbove),
+    ),
+    (
+        "none-above-written",
+        Fault::Misread(Misreading::NoneAboveWritten),
+    ),
+    ("3-stays-3", Fault::Misread(Misreading::ThreeStays)),
+    (
+        "15-over-parameters",
+        Fault::Misread(Misreading::BroughtOverParameters),
     ),
 ];
 

@@ -13,6 +13,7 @@ pub mod expansions;
 pub mod families;
 pub mod faults;
 pub mod faulty;
+pub mod lawful;
 pub mod limits;
 pub mod long;
 pub mod mixed_substitutes;

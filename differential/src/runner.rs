@@ -9,6 +9,7 @@ use crate::damage;
 use crate::expansions;
 use crate::families;
 use crate::faults::{self, Plan};
+use crate::lawful::{self, Move};
 use crate::limits;
 use crate::mixed_substitutes;
 use crate::mixing;
@@ -18,6 +19,7 @@ use crate::random::Random;
 use crate::shrink;
 use crate::substitutes;
 use crate::syntax;
+use reference::{Rules, Seen};
 use std::fmt::{self, Display, Formatter};
 
 /// What to compare.
@@ -28,6 +30,8 @@ pub struct Options {
     pub queries: bool,
     /// Whether the hostile families and the realistic files come last.
     pub families: bool,
+    /// By what an INSTANCE is lawful in the second opinion: by wrong rules it finds something.
+    pub lawful: Rules,
 }
 
 /// Enough files for every count.
@@ -41,11 +45,13 @@ impl Default for Options {
             seed: DEFAULT_SEED,
             queries: true,
             families: false,
+            lawful: Rules::PAPERS,
         }
     }
 }
 
-/// A case on which two checkers differ, or a checker and the long way.
+/// A case on which two checkers differ, or a checker and the long way, or of which the second opinion on
+/// lawful instances finds something.
 #[derive(Clone, Debug)]
 pub struct Difference {
     /// The number of the file in the run.
@@ -92,6 +98,9 @@ pub struct Report {
     pub by_the_model: u64,
     /// Files judged the same by the book: the verdict, and every entry of every card.
     pub by_the_book: u64,
+    /// Brought definitions that the second opinion on lawful instances looked at, and gave up.
+    pub stayed_lawful: u64,
+    pub opinions_given_up: u64,
     pub difference: Option<Difference>,
 }
 
@@ -117,6 +126,11 @@ impl Display for Report {
             "{} answers as the generator knows them, {} files judged the same by the book",
             self.by_the_model, self.by_the_book
         )?;
+        writeln!(
+            f,
+            "{} brought definitions lawful by the second opinion; it gave up {} times",
+            self.stayed_lawful, self.opinions_given_up
+        )?;
         if self.not_offered > 0 {
             let count = self.not_offered;
             writeln!(f, "{count} calls left out: not offered by both checkers")?;
@@ -131,6 +145,8 @@ pub struct Generated {
     pub file: Vec<u8>,
     /// What it is meant to show, to be counted if it is refused so, or accepted.
     pub meant: Option<(Section, String, Option<Meant>)>,
+    /// What becomes of the levels of definitions that it brings, to be found before it is counted.
+    pub moves: Vec<Move>,
     /// Queries that come with it.
     pub calls: Vec<Call>,
 }
@@ -161,7 +177,7 @@ fn size(random: &mut Random) -> (usize, usize) {
 }
 
 /// Files of one turn.
-const TURN: u64 = 26;
+const TURN: u64 = 30;
 
 /// The file of this number in a run. Numbers take turns through all the kinds of files.
 pub fn generate(seed: u64, number: u64) -> Generated {
@@ -171,6 +187,7 @@ pub fn generate(seed: u64, number: u64) -> Generated {
     let plain = |file: Vec<u8>| Generated {
         file,
         meant: None,
+        moves: Vec::new(),
         calls: Vec::new(),
     };
     match slot {
@@ -188,9 +205,8 @@ pub fn generate(seed: u64, number: u64) -> Generated {
             };
             let meant = Some(unlawful).filter(|_| !substituted.lawful);
             Generated {
-                file: substituted.file,
                 meant: Some((Section::Substitute, substituted.label, meant)),
-                calls: Vec::new(),
+                ..plain(substituted.file)
             }
         }
         5..=12 => {
@@ -202,18 +218,16 @@ pub fn generate(seed: u64, number: u64) -> Generated {
                 place: Some(targeted.place),
             };
             Generated {
-                file: targeted.file,
                 meant: Some((Section::Fault, plan.label(), Some(meant))),
-                calls: Vec::new(),
+                ..plain(targeted.file)
             }
         }
         13 => {
             let limited = limits::build(turn % limits::count(), random);
             let meant = limited.cause.map(|cause| Meant { cause, place: None });
             Generated {
-                file: limited.file,
                 meant: Some((Section::Limit, limited.label, meant)),
-                calls: Vec::new(),
+                ..plain(limited.file)
             }
         }
         14 | 15 => {
@@ -257,9 +271,9 @@ pub fn generate(seed: u64, number: u64) -> Generated {
                 place: Some(place),
             });
             Generated {
-                file: mixed.file,
                 meant: Some((Section::Mixing, mixed.label, meant)),
                 calls: mixed.calls,
+                ..plain(mixed.file)
             }
         }
         23..=25 => {
@@ -268,9 +282,21 @@ pub fn generate(seed: u64, number: u64) -> Generated {
             let mixed = mixed_substitutes::build(number, random);
             let meant = mixed.cause.map(|cause| Meant { cause, place: None });
             Generated {
-                file: mixed.file,
                 meant: Some((Section::MixedSubstitutes, mixed.label, meant)),
-                calls: Vec::new(),
+                ..plain(mixed.file)
+            }
+        }
+        26..=29 => {
+            let number = 4 * turn + slot as usize - 26;
+            let lawful = lawful::build(number % lawful::count(), random);
+            let meant = lawful.refusal.map(|(cause, place)| Meant {
+                cause,
+                place: Some(place),
+            });
+            Generated {
+                meant: Some((Section::Lawful, lawful.label, meant)),
+                moves: lawful.moves,
+                ..plain(lawful.file)
             }
         }
         _ => {
@@ -425,6 +451,7 @@ impl Runner<'_> {
             self.report.coverage.case(&case, &outcome, verdict);
         }
         self.by_the_book(&checked, &outcome, verdict)?;
+        let seen = self.second_opinion(&checked, options.lawful)?;
         if let Some((section, label, meant)) = generated.meant {
             let as_meant = match meant {
                 None => verdict.is_none(),
@@ -432,7 +459,8 @@ impl Runner<'_> {
                     number == cause && place.is_none_or(|place| place == at)
                 }),
             };
-            if as_meant {
+            let moved = generated.moves.iter().all(|only| only.count(&seen) > 0);
+            if as_meant && moved {
                 self.report.coverage.count(section, label);
             }
         }
@@ -561,6 +589,35 @@ impl Runner<'_> {
             case,
             format!("verdict {verdict:?}, by the book {judged:?}, or the cards differ"),
         );
+        None
+    }
+
+    /// Asks for a second opinion that what the lawful INSTANCEs of a file bring stays lawful. `None` if it
+    /// does not.
+    fn second_opinion(&mut self, case: &Case, rules: Rules) -> Option<Seen> {
+        let opinion = |file: &[u8]| reference::staying_lawful_by(rules, file, FUEL);
+        let reference::Opinion { broken, seen } = opinion(&case.file);
+        let Some(first) = broken.first() else {
+            let looked_at = [seen.constant, seen.other];
+            let definitions: u64 = looked_at.iter().flatten().flatten().sum();
+            self.report.stayed_lawful += definitions;
+            self.report.opinions_given_up += seen.given_up;
+            self.report.coverage.staying(&seen);
+            return Some(seen);
+        };
+        let shrunk = shrink::shrink(case, &mut |case| {
+            let broken = opinion(&case.file).broken;
+            broken.iter().any(|other| other.breach == first.breach)
+        });
+        let what =
+            |broken: &[reference::Broken]| format!("not lawful where it is brought: {broken:?}");
+        self.report.difference = Some(Difference {
+            number: self.number,
+            what: what(&broken),
+            case: case.clone(),
+            shrunk_what: what(&opinion(&shrunk.file).broken),
+            shrunk,
+        });
         None
     }
 

@@ -2,6 +2,8 @@
 //! follow from their seeds.
 
 use differential::checker::{Checker, Offer, Queries, Reference};
+use differential::coverage::{Coverage, Section};
+use differential::lawful;
 use differential::runner::{generate, offer, run, Options};
 
 #[test]
@@ -67,7 +69,34 @@ fn few_files_are_not_enough() {
         ..Options::default()
     };
     let report = run(&Reference, &Reference, options);
-    assert!(!report.coverage.missing(Offer::Expansions).is_empty());
+    let missing = report.coverage.missing(Offer::Expansions);
+    // What the second opinion has to look at has to be there more than once.
+    let rise = lawful::MOVES[2];
+    assert!(rise.constant && rise.brought == 2);
+    let (section, what) = (Section::Staying, rise.label());
+    let few = format!("{section:?}: {what}");
+    assert!(missing.contains(&few), "missing:\n{}", missing.join("\n"));
+    let mut coverage = report.coverage;
+    for enough in [false, true] {
+        assert_eq!(!coverage.missing(Offer::Expansions).contains(&few), enough);
+        (0..20).for_each(|_| coverage.count(section, what.clone()));
+    }
+}
+
+#[test]
+fn no_reply_has_the_number_15() {
+    let options = Options {
+        files: 20,
+        ..Options::default()
+    };
+    let mut coverage = run(&Reference, &Reference, options).coverage;
+    let found = |coverage: &Coverage| {
+        let missing = coverage.missing(Offer::Checks);
+        missing.iter().any(|what| what.starts_with("Cause: 15"))
+    };
+    assert!(!found(&coverage));
+    coverage.count(Section::Cause, "15");
+    assert!(found(&coverage));
 }
 
 #[test]
@@ -75,8 +104,7 @@ fn runs_follow_from_their_seeds() {
     let options = Options {
         files: 150,
         seed: 7,
-        queries: true,
-        families: false,
+        ..Options::default()
     };
     let first = run(&Reference, &Reference, options);
     let second = run(&Reference, &Reference, options);

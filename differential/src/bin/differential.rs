@@ -3,7 +3,7 @@
 use differential::checker::Offer;
 use differential::checker_named;
 use differential::faulty::FAULTS;
-use differential::runner::{offer, run, Options, DEFAULT_FILES, DEFAULT_SEED};
+use differential::runner::{offer, run, Options};
 use std::process::ExitCode;
 use std::time::Instant;
 
@@ -19,10 +19,8 @@ struct Arguments {
 fn arguments() -> Result<Arguments, String> {
     let mut parsed = Arguments {
         options: Options {
-            files: DEFAULT_FILES,
-            seed: DEFAULT_SEED,
             queries: false,
-            families: false,
+            ..Options::default()
         },
         left: "reference".into(),
         right: if cfg!(feature = "proved") {
