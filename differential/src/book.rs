@@ -544,8 +544,9 @@ mod tests {
             let file = file(around);
             let judged = judge(&file, None).expect("small");
             assert_eq!(judged.err(), Some((12, 3)));
-            let judged = judge(&file, Some(Misreading::NoMixing)).expect("small");
-            let book = judged.ok().expect("accepted by the misreading");
+            let Some(Ok(book)) = judge(&file, Some(Misreading::NoMixing)) else {
+                panic!("accepted by the misreading");
+            };
             assert_eq!(book.model.card(0)[0], 3);
             assert_eq!(book.model.card(1)[0], brought);
         }

@@ -97,13 +97,24 @@ const WAYS: [(Way, &str); 5] = [
     (Way::Parameter, "over a parameter"),
 ];
 
+/// What a module that is instanced has of instances itself.
+#[derive(Clone, Copy, Debug, PartialEq, Eq)]
+enum Inside {
+    /// None but what the way asks for, and that without a name.
+    Unnamed,
+    /// What the way asks for has a name.
+    Named,
+    /// A named one of an empty module too.
+    Nothing,
+}
+
 #[derive(Clone, Copy, Debug)]
 enum Plan {
     Alone(Move, usize),
     OneInstance(Move, Move),
     TwoInstances(Move, Move),
-    /// The module instanced has a named instance.
-    Sixteen(Move),
+    /// The module instanced has a named instance, which brings it or brings nothing.
+    Sixteen(Move, bool),
     /// The one of this number is not lawful.
     Unlawful(usize),
 }
@@ -133,7 +144,8 @@ impl Plan {
             Plan::TwoInstances(first, second) => {
                 format!("{}, then {}", first.label(), second.label())
             }
-            Plan::Sixteen(only) => format!("{}, and 16", only.label()),
+            Plan::Sixteen(only, true) => format!("{}, under a name, and 16", only.label()),
+            Plan::Sixteen(only, false) => format!("{}, and 16", only.label()),
             Plan::Unlawful(number) => {
                 let (what, cause, constant) = UNLAWFUL[*number];
                 let module = module_label(constant);
@@ -144,7 +156,7 @@ impl Plan {
 
     fn moves(&self) -> Vec<Move> {
         match *self {
-            Plan::Alone(only, _) | Plan::Sixteen(only) => vec![only],
+            Plan::Alone(only, _) | Plan::Sixteen(only, _) => vec![only],
             Plan::OneInstance(first, second) | Plan::TwoInstances(first, second) => {
                 vec![first, second]
             }
@@ -160,7 +172,9 @@ fn plans() -> Vec<Plan> {
     for way in 0..WAYS.len() {
         plans.extend(MOVES.map(|only| Plan::Alone(only, way)));
     }
-    plans.extend(MOVES.map(Plan::Sixteen));
+    for under_a_name in [false, true] {
+        plans.extend(MOVES.map(|only| Plan::Sixteen(only, under_a_name)));
+    }
     plans.extend((0..UNLAWFUL.len()).map(Plan::Unlawful));
     let pairs = || {
         let all = MOVES.iter().enumerate();
@@ -209,7 +223,7 @@ const I: u16 = 92;
 const J: u16 = 95;
 /// Modules: two for each piece, an empty one, and the last.
 const EMPTY: u16 = 8;
-const LAST: u16 = 9;
+pub const LAST: u16 = 9;
 
 /// What a module declares and defines for one move, and what is put for the names.
 struct Piece {
@@ -377,7 +391,7 @@ impl Site<'_> {
     }
 
     /// Adds the module of some pieces and an INSTANCE of it, the one of this number.
-    fn bring(&mut self, number: u16, pieces: Vec<Piece>, way: Way, named_inside: bool) {
+    fn bring(&mut self, number: u16, pieces: Vec<Piece>, way: Way, inside: Inside) {
         let (has_all, instanced) = (1 + 2 * number, 2 + 2 * number);
         let part = |part: fn(&Piece) -> &[Field]| -> Vec<Field> {
             pieces
@@ -388,13 +402,10 @@ impl Site<'_> {
         let declared = part(|piece| &piece.declared);
         let mut all = declared.clone();
         all.extend(part(|piece| &piece.defined));
-        // A definition may come under the name of the instance inside, or there is one that brings nothing.
-        let inner_name = match (named_inside, way) {
-            (true, Way::Brought) => J + number,
+        let inner_name = match inside {
+            Inside::Named => J + number,
             _ => 0,
         };
-        let nothing =
-            (named_inside && inner_name == 0).then(|| instance(J + number, 0, EMPTY, &[]));
         match way {
             Way::Extended => {
                 self.module(has_all, all);
@@ -407,7 +418,9 @@ impl Site<'_> {
             }
             _ => (),
         }
-        all.extend(nothing);
+        if inside == Inside::Nothing {
+            all.push(instance(J + number, 0, EMPTY, &[]));
+        }
         self.module(instanced, all);
         let over = u8::from(way == Way::Parameter);
         let mut with = Vec::new();
@@ -441,14 +454,18 @@ pub fn build(number: usize, random: &mut Random) -> Lawful {
         Plan::Alone(only, way) => {
             let dropped = high(only, site.random);
             let piece = piece(only, 0, dropped, site.random);
-            site.bring(0, vec![piece], WAYS[way].0, false);
+            site.bring(0, vec![piece], WAYS[way].0, Inside::Unnamed);
         }
-        Plan::Sixteen(only) => {
-            site.module(EMPTY, Vec::new());
+        Plan::Sixteen(only, under_a_name) => {
             let dropped = high(only, site.random);
             let piece = piece(only, 0, dropped, site.random);
-            let way = any(&mut site);
-            site.bring(0, vec![piece], way, true);
+            if under_a_name {
+                site.bring(0, vec![piece], Way::Brought, Inside::Named);
+            } else {
+                site.module(EMPTY, Vec::new());
+                let way = any(&mut site);
+                site.bring(0, vec![piece], way, Inside::Nothing);
+            }
         }
         Plan::Unlawful(number) => {
             let (what, _, constant) = UNLAWFUL[number];
@@ -460,7 +477,7 @@ pub fn build(number: usize, random: &mut Random) -> Lawful {
                 }
             }
             let way = any(&mut site);
-            site.bring(0, vec![piece], way, false);
+            site.bring(0, vec![piece], way, Inside::Unnamed);
         }
         Plan::OneInstance(first, second) => {
             // What is dropped must not mix with what is not.
@@ -471,7 +488,7 @@ pub fn build(number: usize, random: &mut Random) -> Lawful {
                 piece(second, 10, 0, site.random),
             ];
             let way = any(&mut site);
-            site.bring(0, pieces, way, false);
+            site.bring(0, pieces, way, Inside::Unnamed);
         }
         Plan::TwoInstances(first, second) => {
             for (number, only) in [first, second].into_iter().enumerate() {
@@ -479,7 +496,7 @@ pub fn build(number: usize, random: &mut Random) -> Lawful {
                 let dropped = high(only, site.random);
                 let piece = piece(only, 10 * number, dropped, site.random);
                 let way = any(&mut site);
-                site.bring(number, vec![piece], way, false);
+                site.bring(number, vec![piece], way, Inside::Unnamed);
             }
         }
     }
@@ -489,7 +506,7 @@ pub fn build(number: usize, random: &mut Random) -> Lawful {
     fields.push(Field::Module(LAST));
     fields.extend(inside);
     let cause = match plan {
-        Plan::Sixteen(_) => Some(16),
+        Plan::Sixteen(..) => Some(16),
         Plan::Unlawful(number) => Some(UNLAWFUL[number].1),
         _ => None,
     };

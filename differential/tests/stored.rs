@@ -1,6 +1,7 @@
 //! The stored vectors of the gate are those that `vectors` writes, and the listing program is the one
-//! that they are run with.
+//! that they are run with. Among them is whatever becomes of a level where it is brought.
 
+use differential::lawful;
 use std::fs;
 use std::path::Path;
 use std::process::Command;
@@ -32,6 +33,44 @@ fn vectors_are_up_to_date() {
         ("queries", "asks"),
     ] {
         compare(kind, samples, program, &["stdin", "stdout", "index"]);
+    }
+}
+
+/// The stored files: each after a length of three bytes.
+fn stored_files() -> Vec<Vec<u8>> {
+    let crates = Path::new(env!("CARGO_MANIFEST_DIR")).join("../crates");
+    let stored = fs::read(crates.join("vectors/stdin")).expect("stored");
+    let (mut rest, mut files) = (&stored[..], Vec::new());
+    while let [high, middle, low, after @ ..] = rest {
+        let length = u32::from_be_bytes([0, *high, *middle, *low]) as usize;
+        files.push(after[..length].to_vec());
+        rest = &after[length..];
+    }
+    files
+}
+
+#[test]
+fn stored_files_stay_lawful() {
+    let mut seen = reference::Seen::default();
+    for file in stored_files() {
+        let opinion = reference::staying_lawful(&file, 2_000);
+        assert!(opinion.broken.is_empty(), "{:?}", opinion.broken);
+        seen += opinion.seen;
+    }
+    for only in lawful::MOVES {
+        assert!(only.count(&seen) >= 20, "{}: {seen:?}", only.label());
+    }
+    assert!(seen.named_inside >= 40 && seen.chained >= 100, "{seen:?}");
+}
+
+/// No stored answer has the number 15.
+#[test]
+fn no_stored_answer_is_15() {
+    let crates = Path::new(env!("CARGO_MANIFEST_DIR")).join("../crates");
+    for program in ["vectors", "checks", "asks"] {
+        let answers = fs::read_to_string(crates.join(program).join("stdout")).expect("stored");
+        assert!(answers.lines().any(|line| line.starts_with("refused 16 ")));
+        assert!(!answers.lines().any(|line| line.starts_with("refused 15 ")));
     }
 }
 

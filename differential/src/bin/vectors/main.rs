@@ -16,7 +16,9 @@ mod queries;
 use differential::checker::refusal;
 use differential::random::Random;
 use differential::syntax::{self, brought, instance, lit, n, op, p, Field};
-use differential::{accepted, faults, limits, mixed_substitutes, mixing, rows, substitutes};
+use differential::{
+    accepted, faults, lawful, limits, mixed_substitutes, mixing, rows, substitutes,
+};
 use reference::{listing, packed_check};
 use std::collections::HashSet;
 use std::fmt::Write;
@@ -28,8 +30,8 @@ use std::{env, fs, io};
 struct Vector {
     label: String,
     file: Vec<u8>,
-    /// Whether a check of it is lent enough memory whatever its turn: the samples, those of codes, and
-    /// those in which a 2 and a 3 meet.
+    /// Whether a check of it is lent enough memory whatever its turn: the samples, those of codes, those in
+    /// which a 2 and a 3 meet, and those of lawful instances.
     whole: bool,
 }
 
@@ -158,7 +160,7 @@ fn instance_operators() -> Vec<(&'static str, Vec<u8>)> {
 }
 
 /// Every planned fault, both sides of every limit, every kind of substitute, every way of a 2 and a 3 to
-/// meet, cut fields, the table of codes and those just outside it, accepted files of several shapes, and
+/// meet, everything that becomes of a level where it is brought, cut fields, the table of codes and those just outside it, accepted files of several shapes, and
 /// the samples.
 fn vectors(samples: &Path) -> io::Result<Vec<Vector>> {
     let mut all = Vec::new();
@@ -189,6 +191,10 @@ fn vectors(samples: &Path) -> io::Result<Vec<Vector>> {
         let mut files = built(4, |random| mixed_substitutes::build(number, random).file);
         let label = format!("substitutes, 2 and 3: {label}");
         add(label, files.swap_remove(0), true);
+    }
+    for (number, label) in lawful::labels().into_iter().enumerate() {
+        let mut files = built(4, |random| lawful::build(number, random).file);
+        add(format!("brought: {label}"), files.swap_remove(0), true);
     }
     for (label, file) in cuts().into_iter().chain(instance_operators()) {
         add(label.into(), file, false);

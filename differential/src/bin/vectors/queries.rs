@@ -2,16 +2,17 @@
 //! samples, and generated ones of every kind of answer.
 
 use crate::{
-    expansions, long, marked, module, reply_line, sample_files, three, ENOUGH, MEMORY, OUTPUT,
+    built, expansions, long, marked, module, reply_line, sample_files, three, ENOUGH, MEMORY,
+    OUTPUT,
 };
 use differential::cases::{Call, Case};
 use differential::checker::Reference;
-use differential::model::Model;
+use differential::model::{Model, Named};
 use differential::random::Random;
 use differential::syntax::{
     self, always, and, b, brought, instance, lit, n, op, p, prime, tree_of, wrap, Expr, Field,
 };
-use differential::{accepted, queries};
+use differential::{accepted, lawful, queries};
 use std::collections::BTreeMap;
 use std::io;
 use std::path::Path;
@@ -602,6 +603,58 @@ pub fn refused_files() -> Vec<(&'static str, Vec<u8>, Call)> {
     ]
 }
 
+/// Room for the expansion of a definition that a lawful instance brings.
+const BROUGHT: usize = 600;
+
+/// Of each file with one lawful INSTANCE: the level of the last definition that it brings, with parameters at
+/// 0, and with the instance's at 1, 2 and 3; its expansion, and whether it is like the one in its module. Of
+/// each with cause 16 beside it: that the file comes first.
+fn of_lawful_instances() -> Vec<(String, Vec<u8>, Call)> {
+    let mut all = Vec::new();
+    let mut cards = vec![0; MEMORY];
+    for (number, label) in lawful::labels().into_iter().enumerate() {
+        let mut files = built(4, |random| lawful::build(number, random).file);
+        let file = files.swap_remove(0);
+        let lawful = lawful::build(number, &mut Random::new(0));
+        if lawful.moves.len() != 1 {
+            continue;
+        }
+        let mut add = |call| all.push((format!("brought: {label}"), file.clone(), call));
+        if lawful.refusal.is_some() {
+            add(level(lawful::LAST, &lit(0), &[]));
+            continue;
+        }
+        reference::packed_check(&file, &mut cards);
+        let model = Model::of(&syntax::fields(&file), &cards);
+        let [.., instanced, last] = &model.modules[..] else {
+            unreachable!("a module instanced and the last");
+        };
+        let (expr, count) = last.scope.last_over_parameters().expect("a definition");
+        let mut levels = vec![0; count.into()];
+        add(level(last.name, &expr, &levels));
+        let over = |instance: &Named| instance.parameters > 0;
+        if last.scope.instances.iter().any(over) {
+            for given in 1..=3 {
+                levels[0] = given;
+                add(level(last.name, &expr, &levels));
+            }
+            continue;
+        }
+        add(Call::Expand {
+            module: last.name,
+            expr: expr.bytes(),
+            params: count,
+            room: BROUGHT,
+        });
+        let original = *instanced.scope.order.last().expect("a definition");
+        add(Call::Alike {
+            a: original as u32,
+            b: model.definitions.len() as u32 - 1,
+        });
+    }
+    all
+}
+
 /// At most so many generated queries of one kind of answer, and of expansions that show little.
 const EACH: usize = 12;
 const FEW: usize = 2;
@@ -766,6 +819,9 @@ pub fn all(samples: &Path) -> io::Result<Vec<Query>> {
     }
     for (label, file, call) in refused_files() {
         add(label.into(), &file, call, 40_000);
+    }
+    for (label, file, call) in of_lawful_instances() {
+        add(label, &file, call, 32_000);
     }
     all.extend(expansions::all());
     all.extend(long::all());
