@@ -15,7 +15,7 @@ use Rattle.rules.specs.Judge.{Cause, causes, judge}
 use Rattle.rules.specs.State.{State}
 
 -- where none holds, none of any number does
-none-free : (cs : List Cause) (c : ℕ) → NoneHolds cs → holds c cs ≡ false
+pub none-free : (cs : List Cause) (c : ℕ) → NoneHolds cs → holds c cs ≡ false
 none-free [] c h = refl
 none-free (x ∷ cs) c h = rw (h .0) (none-free cs c (h .1))
 

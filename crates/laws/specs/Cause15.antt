@@ -32,9 +32,13 @@ abbrev pub insertBefore : ℕ → Cause → List Cause → List Cause
 insertBefore n c [] = []
 insertBefore n c (d ∷ ds) = cond (eqb n (d .0)) (c ∷ d ∷ ds) (d ∷ insertBefore n c ds)
 
--- the causes of a field with 15 among them (only an INSTANCE has a 16)
+-- the number that it was judged before; only an INSTANCE has it
+abbrev pub nextOf15 : ℕ
+nextOf15 = 16
+
+-- the causes of a field with 15 among them
 abbrev pub causesWith15 : State → Field → List Cause
-causesWith15 s f = insertBefore 16 (15, broughtIncorrect s f) (causes s f)
+causesWith15 s f = insertBefore nextOf15 (15, broughtIncorrect s f) (causes s f)
 
 -- and so the check of a file: `fromField`, `judgeFrom`, `judgeFile` and `checked` of rules/specs/Run, with these causes
 abbrev pub fromFieldWith15 : Read Field → State → (List ℕ → State → Outcome State) → Outcome State
