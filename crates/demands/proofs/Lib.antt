@@ -13,3 +13,5 @@ pub mod Demand2
 pub mod Demand1
 pub mod Demand3
 pub mod RuledOut
+-- Lawful instances stay lawful
+pub mod LawfulInstances

@@ -32,8 +32,8 @@ pub data OneReply {A : Type 0} (file lent : List ℕ) (Full : A → Type 0) (num
       → Own (stateOf file) (length (o .fields)) c p → OneReply file lent Full numbers Own reply
 
 -- THE CARD MEMORY after a call, byte by byte, by what a check of the file tells. Accepted with k definitions: "A card is 125 bytes at 125 times the definition's
--- number"; "Acceptance changes no byte past the last card". Refused: 1 leaves all as it was; 2 to 16, "and any
--- cause of the file added later", "set the first 32,000 bytes to 0; bytes beyond stay". "A query's own refusals, like its replies, leave an accepted file's cards filled."
+-- number"; "Acceptance changes no byte past the last card". Refused: 1 leaves all as it was; "refusals 2 to 16 of the file, and any
+-- cause of the file added later, set the first 32,000 bytes to 0; bytes beyond stay". "A query's own refusals, like its replies, leave an accepted file's cards filled."
 abbrev pub byteLeft : List ℕ → List ℕ → Outcome ℕ → ℕ → ℕ
 byteLeft file lent (result k) i = cond (ltb i (cardBytes * k)) (entryAt (stateOf file) (i / cardBytes) (i % cardBytes)) (getD lent i 0)
 byteLeft file lent (refusal c p) i = cond (eqb c 1) (getD lent i 0) (cond (ltb i cardMemoryBytes) 0 (getD lent i 0))
