@@ -1,14 +1,13 @@
 -- What the functions of this crate promise.
-use mathlib.Core.Bool.{Bool}
 use mathlib.Core.List.{List}
 use mathlib.Core.Logic.{_⊎_, _≢_}
 use mathlib.Core.Path.{_≡_}
 use Prim.Native.Nat.{ℕ, _+_, _≤_, _<_}
 use lib.ListN.{getD, length}
 use Rattle.limits.specs.Limits.{maxDefinitions}
-use Rattle.theory.specs.Level.{IsLevel, verdict}
-use Rattle.theory.specs.Lists.{All, any, numbersFrom}
-use Rattle.rules.specs.State.{State, cardLevel, paramsOf, zeros}
+use Rattle.theory.specs.Level.{IsLevel}
+use Rattle.theory.specs.Lists.{All}
+use Rattle.rules.specs.State.{State, cardLevel, paramsOf}
 use Rattle.texts.specs.Text.{Declarations}
 use Rattle.forms.specs.Forms.{formAt, levelAt}
 use Rattle.context.specs.Store.{Store}
@@ -30,20 +29,15 @@ pub record WorldForm (file refs words : List ℕ) (v : Store) (declared : List �
   pub right : (c : Counts) (s : State) (rs : List Row) (decls : Declarations) (end : ℕ) → Ready file refs v declared n c s rs decls end → d < c .definitions
       → FormsBelow words s d → DeclaredForms words decls → FormOf s d r
 
--- The form of definition d has been stored in the table; r says whether its level is 4 with parameters at 0.
-pub record FormBrought (file refs : List ℕ) (v : Store) (declared : List ℕ) (n d : ℕ) (words words′ : List ℕ) (r : Bool) : Type 0 where
+-- The form of definition d has been stored in the table.
+pub record FormBrought (file refs : List ℕ) (v : Store) (declared : List ℕ) (n d : ℕ) (words words′ : List ℕ) : Type 0 where
   pub size : length words′ ≡ length words
   pub form : WorldForm file refs words v declared n d (formAt words′ d)
   pub others : (g : ℕ) → g ≢ d → formAt words′ g ≡ formAt words g
-  pub answer : (k : ℕ) → r ≡ verdict (levelAt (formAt words′ d) (zeros k))
 
--- some definition of a run has level 4 with parameters at 0
-abbrev pub someIncorrect : State → ℕ → ℕ → Bool
-someIncorrect s first count = any (λ d. verdict (cardLevel s d (zeros (paramsOf s d)))) (numbersFrom first count)
-
--- The forms of the definitions from `first` on, `count` of them, have been stored in the table; r says whether one has level 4.
-pub record BroughtForms (file refs : List ℕ) (v : Store) (declared : List ℕ) (n first count : ℕ) (words words′ : List ℕ) (r : Bool) : Type 0 where
+-- The forms of the definitions from `first` on, `count` of them, have been stored in the table.
+pub record BroughtForms (file refs : List ℕ) (v : Store) (declared : List ℕ) (n first count : ℕ) (words words′ : List ℕ) : Type 0 where
   pub size : length words′ ≡ length words
   pub others : (g : ℕ) → (g < first) ⊎ (first + count ≤ g) → formAt words′ g ≡ formAt words g
   pub right : (c : Counts) (s : State) (rs : List Row) (decls : Declarations) (end : ℕ) → Ready file refs v declared n c s rs decls end → first + count ≤ c .definitions
-      → FormsBelow words s first → DeclaredForms words decls → FormsBelow words′ s (first + count) × (r ≡ someIncorrect s first count)
+      → FormsBelow words s first → DeclaredForms words decls → FormsBelow words′ s (first + count)

@@ -1,6 +1,5 @@
 // The forms of the definitions that an INSTANCE field brought, in order: each is worked out by those before it.
 use crate::world::world_form;
-ghost use mathlib.Core.Bool.{_||_};
 ghost use mathlib.Core.Path.{_≡_};
 ghost use Prim.Native.Nat.{_+_, _≤_, _<_};
 ghost use lib.ListN.{length};
@@ -9,16 +8,7 @@ ghost use Rattle.context.specs.Store.{store};
 ghost use Rattle.levels.specs.Tables.{tableWords};
 ghost use Rattle.chains.specs.Results.{BroughtForms, FormBrought};
 
-fn either(a: bool, b: bool) -> bool
-    ensures { λ r. ⌜ r ≡ (a || b) ⌝ }
-{
-    if a {
-        return true;
-    }
-    b
-}
-
-// The form of definition d; whether its level is 4 with parameters at 0.
+// The form of definition d.
 fn bring_form(
     file: &[u8],
     refs: &[u16],
@@ -31,9 +21,9 @@ fn bring_form(
     declared: &[u16],
     n: usize,
     d: usize,
-) -> bool
+)
     requires { ⌜ (length (now words) ≡ tableWords) × (n ≤ maxDeclarations) × (d < maxDefinitions) ⌝ }
-    ensures { λ r. ⌜ FormBrought (now (file .entry)) (now (refs .entry)) (store (now (names .entry)) (now (facts .entry)) (now (contexts .entry)) (now (orders .entry)) (now (heads .entry))) (now (declared .entry)) n d (now (words .entry)) (now (words .exit)) r ⌝ }
+    ensures { λ r. ⌜ FormBrought (now (file .entry)) (now (refs .entry)) (store (now (names .entry)) (now (facts .entry)) (now (contexts .entry)) (now (orders .entry)) (now (heads .entry))) (now (declared .entry)) n d (now (words .entry)) (now (words .exit)) ⌝ }
 {
     let f = world_form(
         file,
@@ -49,10 +39,9 @@ fn bring_form(
         d,
     );
     words[d] = f;
-    forms::card::level_at_zero(f) == 4
 }
 
-// The forms of the definitions from `first` on, `count` of them; whether the level of one is 4 with parameters at 0.
+// The forms of the definitions from `first` on, `count` of them.
 pub fn brought_forms(
     file: &[u8],
     refs: &[u16],
@@ -66,14 +55,13 @@ pub fn brought_forms(
     n: usize,
     first: usize,
     count: usize,
-) -> bool
+)
     requires { ⌜ (length (now words) ≡ tableWords) × (n ≤ maxDeclarations) × (first + count ≤ maxDefinitions) ⌝ }
-    ensures { λ r. ⌜ BroughtForms (now (file .entry)) (now (refs .entry)) (store (now (names .entry)) (now (facts .entry)) (now (contexts .entry)) (now (orders .entry)) (now (heads .entry))) (now (declared .entry)) n first count (now (words .entry)) (now (words .exit)) r ⌝ }
+    ensures { λ r. ⌜ BroughtForms (now (file .entry)) (now (refs .entry)) (store (now (names .entry)) (now (facts .entry)) (now (contexts .entry)) (now (orders .entry)) (now (heads .entry))) (now (declared .entry)) n first count (now (words .entry)) (now (words .exit)) ⌝ }
 {
-    let mut incorrect = false;
     let mut i: usize = 0;
     while i < count {
-        let b = bring_form(
+        bring_form(
             file,
             refs,
             words,
@@ -86,8 +74,6 @@ pub fn brought_forms(
             n,
             first + i,
         );
-        incorrect = either(incorrect, b);
         i += 1;
     }
-    incorrect
 }

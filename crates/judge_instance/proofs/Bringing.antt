@@ -1,59 +1,22 @@
--- What the arrays hold after an INSTANCE field, whatever its name and whatever it instances: so also where cause 16 holds, and a path of two
--- names is not kept.
-use mathlib.Core.Bool.{Bool, cond, false, true}
-use mathlib.Core.List.{List, [], _++_, _∷_, append-assoc, append-nil}
-use mathlib.Core.Path.{_∙_, _≡_, ap, refl, sym}
-use lib.Dec.{eqb}
-use lib.ListN.{getD, length, length-set, set}
-use lib.Seq.{getD-set-other, getD-set-same}
+-- What the rows of the arrays hold after an INSTANCE field.
+use mathlib.Core.List.{List, [], _∷_}
+use mathlib.Core.Path.{_∙_, _≡_, ap, refl}
+use lib.ListN.{getD, length}
+use lib.Seq.{getD-set-other}
 use native.Mathlib.Nat.{add-zero}
 use native.Mathlib.Omega.{arith}
 use Prim.Native.Nat.{_*_, _+_, _<_, _≤_, suc, zero, ℕ}
 use Rattle.context.proofs.Change.{fact-first, fact-kind, fact-link, fact-other, fact-source, fact-via, stored-length}
-use Rattle.context.proofs.Parts.{part-push, part-set}
-use Rattle.context.specs.Parts.{part}
-use Rattle.context.specs.Store.{Store, codesOf, contextSlot, firstAt, grown, kindAt, linkAt, longer, orderOf, orderSlot, sourceAt, stored, viaAt, withCode}
+use Rattle.context.specs.Store.{Store, firstAt, kindAt, linkAt, sourceAt, stored, viaAt}
 use Rattle.context.specs.declared.Row.{Row}
-use Rattle.instancing.specs.Bringing.{bringAll, bringOne, broughtRow, instanceNoted, pushedContexts, pushedHeads}
-use Rattle.limits.specs.Limits.{maxDefinitions, maxModules}
-use Rattle.limits.specs.Sizes.{columnCount, contextLength, contextsLength, headsLength}
-
--- a list that goes on
-abbrev pub Longer : List ℕ → List ℕ → Type 0
-Longer xs ys = (zs : List ℕ) × (ys ≡ xs ++ zs)
-
-pub longer-both : (xs ys zs : List ℕ) → Longer xs ys → Longer ys zs → Longer xs zs
-longer-both xs ys zs a b = (a .0 ++ b .0, b .1 ∙ ap (λ (l : List ℕ). l ++ b .0) (a .1) ∙ append-assoc xs (a .0) (b .0))
+use Rattle.instancing.specs.Bringing.{bringAll, bringOne, broughtRow, instanceNoted}
+use Rattle.limits.specs.Sizes.{columnCount}
 
 -- a column of a code that is not stored
 fact-apart : (facts : List ℕ) (o : ℕ) (r : Row) (x k : ℕ) → (x ≡ o → ⊥) → k < columnCount
     → getD (stored facts o r) (columnCount * x + k) 0 ≡ getD facts (columnCount * x + k) 0
 fact-apart facts o r x k n l =
     fact-other facts o r (columnCount * x + k) (λ (j : ℕ) (m : j < columnCount) (e : columnCount * x + k ≡ columnCount * o + j). n (omega arith))
-
--- the heads, by the tests that are written in them
-module _ (heads : List ℕ) (m : ℕ) where
-  heads-size : (name : ℕ) → length (pushedHeads heads m name) ≡ length heads
-  unfolding pushedHeads grown
-  heads-size name = go (eqb name 0)
-    where
-      go : (t : Bool)
-          → length (cond t (set (set heads (contextSlot m) (getD heads (contextSlot m) 0 + 1)) (orderSlot m) (getD heads (orderSlot m) 0 + 1)) (longer heads (orderSlot m)))
-          ≡ length heads
-      go true = simp length-set refl
-      go false = simp length-set refl
-
-  heads-other : (name x : ℕ) → (x ≡ contextSlot m → ⊥) → (x ≡ orderSlot m → ⊥) → getD (pushedHeads heads m name) x 0 ≡ getD heads x 0
-  unfolding pushedHeads grown
-  heads-other name x a b = go (eqb name 0)
-    where
-      go : (t : Bool)
-          → getD (cond t (set (set heads (contextSlot m) (getD heads (contextSlot m) 0 + 1)) (orderSlot m) (getD heads (orderSlot m) 0 + 1)) (longer heads (orderSlot m))) x 0
-          ≡ getD heads x 0
-      go true =
-          getD-set-other (set heads (contextSlot m) (getD heads (contextSlot m) 0 + 1)) (orderSlot m) x (getD heads (orderSlot m) 0 + 1) 0 b
-          ∙ getD-set-other heads (contextSlot m) x (getD heads (contextSlot m) 0 + 1) 0 a
-      go false = getD-set-other heads (orderSlot m) x (getD heads (orderSlot m) 0 + 1) 0 b
 
 module _ (m p name link : ℕ) where
   abbrev pub all : Store → ℕ → List ℕ → Store
@@ -112,136 +75,6 @@ module _ (m p name link : ℕ) where
       let z : length (one v o g .facts) ≡ length (v .facts) = stored-length (v .facts) o (broughtRow (v .facts) g p name link) in
       ap (linkAt (all (one v o g) (suc o) gs .facts)) e ∙ all-link gs (one v o g) (suc o) i (omega arith) (omega arith)
 
-  -- The other modules' lists stay.
-
-  module _ (few : m ≤ maxModules) (k : ℕ) (before : k < m) where
-    pub all-context-slot : (gs : List ℕ) (v : Store) (o : ℕ) → getD (all v o gs .heads) (contextSlot k) 0 ≡ getD (v .heads) (contextSlot k) 0
-    unfolding bringAll bringOne
-    all-context-slot [] v o = refl
-    all-context-slot (g ∷ gs) v o =
-        all-context-slot gs (one v o g) (suc o)
-        ∙ heads-other (v .heads) m name (contextSlot k) (λ (e : contextSlot k ≡ contextSlot m). omega arith) (λ (e : contextSlot k ≡ orderSlot m). omega arith)
-
-    all-order-slot : (gs : List ℕ) (v : Store) (o : ℕ) → getD (all v o gs .heads) (orderSlot k) 0 ≡ getD (v .heads) (orderSlot k) 0
-    unfolding bringAll bringOne
-    all-order-slot [] v o = refl
-    all-order-slot (g ∷ gs) v o =
-        all-order-slot gs (one v o g) (suc o)
-        ∙ heads-other (v .heads) m name (orderSlot k) (λ (e : orderSlot k ≡ contextSlot m). omega arith) (λ (e : orderSlot k ≡ orderSlot m). omega arith)
-
-    all-part : (gs : List ℕ) (v : Store) (o n : ℕ) → n ≤ contextLength → part (all v o gs .contexts) (k * contextLength) n ≡ part (v .contexts) (k * contextLength) n
-    unfolding bringAll bringOne pushedContexts
-    all-part [] v o n l = refl
-    all-part (g ∷ gs) v o n l = all-part gs (one v o g) (suc o) n l ∙ go (eqb name 0)
-      where
-        go : (t : Bool) → part (cond t (withCode (v .contexts) (v .heads) m o) (v .contexts)) (k * contextLength) n ≡ part (v .contexts) (k * contextLength) n
-        go true =
-            part-set (v .contexts) (m * contextLength + getD (v .heads) (contextSlot m) 0) o (k * contextLength) n
-            (λ (j : ℕ) (q : j < n) (e : k * contextLength + j ≡ m * contextLength + getD (v .heads) (contextSlot m) 0). omega arith)
-        go false = refl
-
-    all-numbers : (gs : List ℕ) (v : Store) (o n : ℕ) → n ≤ maxDefinitions → part (all v o gs .orders) (k * maxDefinitions) n ≡ part (v .orders) (k * maxDefinitions) n
-    unfolding bringAll bringOne
-    all-numbers [] v o n l = refl
-    all-numbers (g ∷ gs) v o n l =
-        all-numbers gs (one v o g) (suc o) n l
-        ∙ part-set (v .orders) (m * maxDefinitions + getD (v .heads) (orderSlot m) 0) o (k * maxDefinitions) n
-        (λ (j : ℕ) (q : j < n) (e : k * maxDefinitions + j ≡ m * maxDefinitions + getD (v .heads) (orderSlot m) 0). omega arith)
-
-    pub all-codes : (gs : List ℕ) (v : Store) (o : ℕ) → getD (v .heads) (contextSlot k) 0 ≤ contextLength → codesOf (all v o gs) k ≡ codesOf v k
-    all-codes gs v o l =
-        ap (part (all v o gs .contexts) (k * contextLength)) (all-context-slot gs v o) ∙ all-part gs v o (getD (v .heads) (contextSlot k) 0) l
-
-    pub all-order : (gs : List ℕ) (v : Store) (o : ℕ) → getD (v .heads) (orderSlot k) 0 ≤ maxDefinitions
-        → orderOf (all v o gs .orders) (all v o gs .heads) k ≡ orderOf (v .orders) (v .heads) k
-    all-order gs v o l =
-        ap (part (all v o gs .orders) (k * maxDefinitions)) (all-order-slot gs v o) ∙ all-numbers gs v o (getD (v .heads) (orderSlot k) 0) l
-
-  -- The open module's context goes on.
-
-  module _ (few : m ≤ maxModules) where
-    one-slot : (heads : List ℕ) → length heads ≡ headsLength → getD (pushedHeads heads m name) (contextSlot m) 0 ≤ getD heads (contextSlot m) 0 + 1
-    unfolding pushedHeads grown
-    one-slot heads size = go (eqb name 0)
-      where
-        a : getD (set (set heads (contextSlot m) (getD heads (contextSlot m) 0 + 1)) (orderSlot m) (getD heads (orderSlot m) 0 + 1)) (contextSlot m) 0
-            ≡ getD heads (contextSlot m) 0 + 1
-        a =
-            getD-set-other (set heads (contextSlot m) (getD heads (contextSlot m) 0 + 1)) (orderSlot m) (contextSlot m) (getD heads (orderSlot m) 0 + 1) 0
-            (λ (z : contextSlot m ≡ orderSlot m). omega arith)
-            ∙ getD-set-same heads (contextSlot m) (getD heads (contextSlot m) 0 + 1) 0 (omega arith)
-
-        b : getD (longer heads (orderSlot m)) (contextSlot m) 0 ≡ getD heads (contextSlot m) 0
-        b = getD-set-other heads (orderSlot m) (contextSlot m) (getD heads (orderSlot m) 0 + 1) 0 (λ (z : contextSlot m ≡ orderSlot m). omega arith)
-
-        go : (t : Bool)
-            → getD (cond t (set (set heads (contextSlot m) (getD heads (contextSlot m) 0 + 1)) (orderSlot m) (getD heads (orderSlot m) 0 + 1)) (longer heads (orderSlot m)))
-            (contextSlot m) 0
-            ≤ getD heads (contextSlot m) 0 + 1
-        go true = rw a (omega arith)
-        go false = rw b (omega arith)
-
-    one-open : (v : Store) (o g : ℕ) → length (v .heads) ≡ headsLength → length (v .contexts) ≡ contextsLength → getD (v .heads) (contextSlot m) 0 < contextLength
-        → Longer (codesOf v m) (codesOf (one v o g) m)
-    unfolding bringOne pushedContexts pushedHeads grown
-    one-open v o g size wide room = go (eqb name 0)
-      where
-        a : getD (set (set (v .heads) (contextSlot m) (getD (v .heads) (contextSlot m) 0 + 1)) (orderSlot m) (getD (v .heads) (orderSlot m) 0 + 1)) (contextSlot m) 0 ≡ getD (v .heads) (contextSlot m) 0 + 1
-        a =
-            getD-set-other (set (v .heads) (contextSlot m) (getD (v .heads) (contextSlot m) 0 + 1)) (orderSlot m) (contextSlot m) (getD (v .heads) (orderSlot m) 0 + 1) 0
-            (λ (z : contextSlot m ≡ orderSlot m). omega arith)
-            ∙ getD-set-same (v .heads) (contextSlot m) (getD (v .heads) (contextSlot m) 0 + 1) 0 (omega arith)
-
-        b : getD (longer (v .heads) (orderSlot m)) (contextSlot m) 0 ≡ getD (v .heads) (contextSlot m) 0
-        b = getD-set-other (v .heads) (orderSlot m) (contextSlot m) (getD (v .heads) (orderSlot m) 0 + 1) 0 (λ (z : contextSlot m ≡ orderSlot m). omega arith)
-
-        go : (t : Bool)
-            → Longer (codesOf v m)
-            (part (cond t (withCode (v .contexts) (v .heads) m o) (v .contexts)) (m * contextLength)
-            (getD (cond t (set (set (v .heads) (contextSlot m) (getD (v .heads) (contextSlot m) 0 + 1)) (orderSlot m) (getD (v .heads) (orderSlot m) 0 + 1)) (longer (v .heads) (orderSlot m))) (contextSlot m) 0))
-        go true = (o ∷ [], ap (part (withCode (v .contexts) (v .heads) m o) (m * contextLength)) a ∙ part-push (v .contexts) (m * contextLength) (getD (v .heads) (contextSlot m) 0) o (omega arith))
-        go false = ([], ap (part (v .contexts) (m * contextLength)) b ∙ sym (append-nil (codesOf v m)))
-
-    contexts-size : (v : Store) (o g : ℕ) → length (one v o g .contexts) ≡ length (v .contexts)
-    unfolding bringOne pushedContexts
-    contexts-size v o g = go (eqb name 0)
-      where
-        go : (t : Bool) → length (cond t (withCode (v .contexts) (v .heads) m o) (v .contexts)) ≡ length (v .contexts)
-        go true = simp length-set refl
-        go false = refl
-
-    one-size : (v : Store) (o g : ℕ) → length (one v o g .heads) ≡ length (v .heads)
-    unfolding bringOne
-    one-size v o g = heads-size (v .heads) m name
-
-    one-head : (v : Store) (o g : ℕ) → getD (one v o g .heads) (contextSlot m) 0 ≡ getD (pushedHeads (v .heads) m name) (contextSlot m) 0
-    unfolding bringOne
-    one-head v o g = refl
-
-    pub all-open : (gs : List ℕ) (v : Store) (o : ℕ) → length (v .heads) ≡ headsLength → length (v .contexts) ≡ contextsLength
-        → getD (v .heads) (contextSlot m) 0 + length gs ≤ contextLength → Longer (codesOf v m) (codesOf (all v o gs) m)
-    unfolding bringAll
-    all-open [] v o size wide room = ([], sym (append-nil (codesOf v m)))
-    all-open (g ∷ gs) v o size wide room =
-        longer-both (codesOf v m) (codesOf (one v o g) m) (codesOf (all (one v o g) (suc o) gs) m) (one-open v o g size wide (omega arith))
-        (all-open gs (one v o g) (suc o) (one-size v o g ∙ size) (contexts-size v o g ∙ wide) (rw (one-head v o g) (omega (arith, one-slot (v .heads) size))))
-
-    pub all-slot : (gs : List ℕ) (v : Store) (o : ℕ) → length (v .heads) ≡ headsLength
-        → getD (all v o gs .heads) (contextSlot m) 0 ≤ getD (v .heads) (contextSlot m) 0 + length gs
-    unfolding bringAll bringOne
-    all-slot [] v o size = omega arith
-    all-slot (g ∷ gs) v o size = omega (arith, all-slot gs (one v o g) (suc o) (heads-size (v .heads) m name ∙ size), one-slot (v .heads) size)
-
-    pub all-heads-size : (gs : List ℕ) (v : Store) (o : ℕ) → length (all v o gs .heads) ≡ length (v .heads)
-    unfolding bringAll bringOne
-    all-heads-size [] v o = refl
-    all-heads-size (g ∷ gs) v o = all-heads-size gs (one v o g) (suc o) ∙ heads-size (v .heads) m name
-
-    pub all-contexts-size : (gs : List ℕ) (v : Store) (o : ℕ) → length (all v o gs .contexts) ≡ length (v .contexts)
-    unfolding bringAll
-    all-contexts-size [] v o = refl
-    all-contexts-size (g ∷ gs) v o = all-contexts-size gs (one v o g) (suc o) ∙ contexts-size v o g
-
 -- what is kept of the field
 module _ (m o name : ℕ) (r : Row) (v : Store) where
   abbrev noted : Store
@@ -275,43 +108,3 @@ module _ (m o name : ℕ) (r : Row) (v : Store) where
     pub noted-link : linkAt (noted .facts) o ≡ r .link
     unfolding instanceNoted
     noted-link = fact-link (v .facts) o r fits
-
-  module _ (few : m ≤ maxModules) where
-    pub noted-codes : (k : ℕ) → k < m → getD (v .heads) (contextSlot k) 0 ≤ contextLength → codesOf noted k ≡ codesOf v k
-    unfolding instanceNoted
-    noted-codes k h l = go (eqb name 0)
-      where
-        go : (t : Bool)
-            → part (cond t (v .contexts) (withCode (v .contexts) (v .heads) m o)) (k * contextLength) (getD (cond t (v .heads) (longer (v .heads) (contextSlot m))) (contextSlot k) 0)
-            ≡ codesOf v k
-        go true = refl
-        go false =
-            ap (part (withCode (v .contexts) (v .heads) m o) (k * contextLength))
-            (getD-set-other (v .heads) (contextSlot m) (contextSlot k) (getD (v .heads) (contextSlot m) 0 + 1) 0 (λ (e : contextSlot k ≡ contextSlot m). omega arith))
-            ∙ part-set (v .contexts) (m * contextLength + getD (v .heads) (contextSlot m) 0) o (k * contextLength) (getD (v .heads) (contextSlot k) 0)
-            (λ (j : ℕ) (q : j < getD (v .heads) (contextSlot k) 0) (e : k * contextLength + j ≡ m * contextLength + getD (v .heads) (contextSlot m) 0). omega arith)
-
-    pub noted-order : (k : ℕ) → k ≤ maxModules → orderOf (noted .orders) (noted .heads) k ≡ orderOf (v .orders) (v .heads) k
-    unfolding instanceNoted
-    noted-order k h = ap (part (v .orders) (k * maxDefinitions)) (go (eqb name 0))
-      where
-        go : (t : Bool) → getD (cond t (v .heads) (longer (v .heads) (contextSlot m))) (orderSlot k) 0 ≡ getD (v .heads) (orderSlot k) 0
-        go true = refl
-        go false =
-            getD-set-other (v .heads) (contextSlot m) (orderSlot k) (getD (v .heads) (contextSlot m) 0 + 1) 0 (λ (e : orderSlot k ≡ contextSlot m). omega arith)
-
-    pub noted-open : length (v .heads) ≡ headsLength → length (v .contexts) ≡ contextsLength → getD (v .heads) (contextSlot m) 0 < contextLength
-        → Longer (codesOf v m) (codesOf noted m)
-    unfolding instanceNoted
-    noted-open size wide room = go (eqb name 0)
-      where
-        go : (t : Bool)
-            → Longer (codesOf v m)
-            (part (cond t (v .contexts) (withCode (v .contexts) (v .heads) m o)) (m * contextLength) (getD (cond t (v .heads) (longer (v .heads) (contextSlot m))) (contextSlot m) 0))
-        go true = ([], sym (append-nil (codesOf v m)))
-        go false = (
-          o ∷ [],
-          ap (part (withCode (v .contexts) (v .heads) m o) (m * contextLength))
-              (getD-set-same (v .heads) (contextSlot m) (getD (v .heads) (contextSlot m) 0 + 1) 0 (omega arith))
-              ∙ part-push (v .contexts) (m * contextLength) (getD (v .heads) (contextSlot m) 0) o (omega arith),
-        )

@@ -7,12 +7,13 @@ use lib.ListN.{List·getD-append, getD, length}
 use lib.Seq.{getD-append-add}
 use native.Mathlib.Decide.{decLt}
 use native.Mathlib.Omega.{arith}
-use Prim.Native.Nat.{_+_, _-_, _<_, _≤_, ℕ}
+use Prim.Native.Nat.{_*_, _+_, _-_, _<_, _≤_, ℕ}
 use Rattle.context.proofs.Parts.{part-length}
 use Rattle.context.specs.Holds.{Holds, moduleNo}
-use Rattle.context.specs.Store.{Store, orderOf, orderSlot}
+use Rattle.context.specs.Store.{Store, afterDefinitions, orderOf, orderSlot}
 use Rattle.context.specs.declared.Counts.{Counts}
 use Rattle.entering.specs.Written.{writtenAt}
+use Rattle.instancing.specs.Bringing.{instancing}
 use Rattle.laws.proofs.Invariant.{Good}
 use Rattle.laws.proofs.Origins.{Origins}
 use Rattle.limits.specs.Limits.{maxDefinitions}
@@ -26,6 +27,7 @@ use Rattle.rules.specs.State.{Module, State, meanings}
 use Rattle.standing.proofs.Links.{chained-kept}
 use Rattle.standing.proofs.Texts.{SameBelow}
 use Rattle.standing.specs.Chained.{Chained, Own, Through}
+use Rattle.standing.specs.Grows.{Grows}
 use Rattle.standing.specs.Shown.{ownerShift}
 use Rattle.texts.specs.Text.{Declarations}
 use Rattle.worlds.proofs.Fields.{getD-map}
@@ -34,12 +36,13 @@ use Rattle.worlds.proofs.Modules.{source-ok}
 use Rattle.worlds.proofs.Places.{in-at, once-place}
 use Rattle.worlds.specs.Rows.{Row, broughtRow, broughtRows, linkOf, noRow, rowsAfter}
 use Rattle.judge_instance.proofs.Field.{new-link, new-source}
-use Rattle.judge_instance.proofs.Linking.{counts-after, link-shown, noted, store-after, store-grows}
+use Rattle.judge_instance.proofs.Linking.{link-shown}
 use Rattle.instance_names.specs.Names.{Agrees}
 
 module _ (v : Store) (c : Counts) (s : State) (holds : Holds v c s) (fs : List Field) (declares : Declares (v .facts) c fs) (origins : Origins fs s) (good : Good s)
     (room : c .fields < maxFields) (n p m q at k : ℕ) (ss : List Substitution) (earlier : q < c .modules) (found : source s m ≡ moduleNo s q)
     (few : c .definitions + getD (v .heads) (orderSlot q) 0 ≤ maxDefinitions) (small : k < ownerShift) (known : instanceUnknown s p (source s m) ss ≡ false)
+    (grows : Grows v c (instancing c n p q at (k + ownerShift * c .modules) v) (afterDefinitions (getD (v .heads) (orderSlot q) 0) c))
     (rs : List Row) (worlds : Worlds s rs) (file refs refs′ : List ℕ) (end : ℕ)
     (agrees : (x : ℕ) → Agrees file refs′ (declarationsOf fs) end s (writtenAt k file at x) (substitutionFor ss x)) where
   abbrev decls : Declarations
@@ -52,15 +55,15 @@ module _ (v : Store) (c : Counts) (s : State) (holds : Holds v c s) (fs : List F
   gs = source s m .definitions
 
   abbrev v′ : Store
-  v′ = store-after v c s holds fs declares origins good room n p m q at k ss earlier found few small known
+  v′ = instancing c n p q at (k + ownerShift * c .modules) v
 
   abbrev c′ : Counts
-  c′ = counts-after v c s holds fs declares origins good room n p m q at k ss earlier found few small known
+  c′ = afterDefinitions (getD (v .heads) (orderSlot q) 0) c
 
   order-there : orderOf (v .orders) (v .heads) q ≡ gs
   order-there = ap (λ (M : Module). M .definitions) (holds .shown q (omega arith) ∙ sym found)
 
-  pub brought-length : getD (v .heads) (orderSlot q) 0 ≡ length gs
+  brought-length : getD (v .heads) (orderSlot q) 0 ≡ length gs
   brought-length = sym (part-length (v .orders) _ (getD (v .heads) (orderSlot q) 0)) ∙ ap length order-there
 
   rows-length : length rs ≡ c .definitions
@@ -86,10 +89,10 @@ module _ (v : Store) (c : Counts) (s : State) (holds : Holds v c s) (fs : List F
             ∙ getD-map (λ g. broughtRow (linkOf s p m ss) (getD rs g noRow)) gs i noRow 0 l
             ∙ ap (broughtRow (linkOf s p m ss)) (sym (List·getD-append rs (broughtRows s rs p m ss) noRow g low));
         source =
-            new-source v c (holds .sized) room n p q at (noted v c s holds fs declares origins good room n p m q at k ss earlier found few small known) earlier few i j
+            new-source v c (holds .sized) room n p q at (k + ownerShift * c .modules) few i j
             ∙ ap (λ (l : List ℕ). getD l i 0) order-there;
-        linked = new-link v c (holds .sized) room n p q at (noted v c s holds fs declares origins good room n p m q at k ss earlier found few small known) earlier few i j;
-        shown = link-shown v c s holds fs declares origins good room n p m q at k ss earlier found few small known file refs′ end agrees;
+        linked = new-link v c (holds .sized) room n p q at (k + ownerShift * c .modules) few i j;
+        shown = link-shown v c s holds fs declares origins good room n p m q at k ss earlier found few small known grows file refs′ end agrees;
       }
 
   -- Every chain is shown after the field.
@@ -104,7 +107,7 @@ module _ (v : Store) (c : Counts) (s : State) (holds : Holds v c s) (fs : List F
           (λ (ds : Declarations). Own v′ file refs′ ds (add s f) end (getD (rowsAfter s rs f) D noRow) D
           ⊎ Through v′ c′ file refs′ ds (rowsAfter s rs f) end (getD (rowsAfter s rs f) D noRow) D)
           (append-nil decls)
-          (chained-kept v c s v′ c′ holds (store-grows v c s holds fs declares origins good room n p m q at k ss earlier found few small known) file refs refs′ decls [] end₀ end
+          (chained-kept v c s v′ c′ holds grows file refs refs′ decls [] end₀ end
           (few-declarations (v .facts) c fs declares) same later (add s f) (broughtAll s n p (source s m) ss) rs (broughtRows s rs p m ss) refl rows-length chained D h)
 
       go : (D : ℕ) → D < c .definitions + getD (v .heads) (orderSlot q) 0 → Dec (D < c .definitions)

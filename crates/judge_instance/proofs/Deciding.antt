@@ -1,4 +1,4 @@
--- The causes of an INSTANCE field in their order: the first seven, then those of levels, then those of what is brought.
+-- The causes of an INSTANCE field in their order: the first seven, then the others.
 use mathlib.Core.Bool.{Bool, cond, false, true}
 use mathlib.Core.List.{List, [], _∷_}
 use mathlib.Core.Option.{some}
@@ -58,10 +58,6 @@ module _ (s : State) (n p m : ℕ) (ss : List Substitution) where
       let h = names-none e in
       record { limited = h .1 .0; known = h .1 .1 .1 .1 .0; counted = h .1 .1 .1 .1 .1 .0 }
 
-  -- the causes of levels come after the first seven, and after them those of what is brought
+  -- if none of the first seven holds, the others are left
   pub after-names : causeNumber (firstCause (take 7 (causes s (instance n p m ss)))) ≡ 0 → judge s (instance n p m ss) ≡ firstCause (drop 7 (causes s (instance n p m ss)))
   after-names e = first-after 7 cs (names-none e)
-
-  pub after-levels : causeNumber (firstCause (take 3 (drop 7 (causes s (instance n p m ss))))) ≡ 0
-      → firstCause (drop 7 (causes s (instance n p m ss))) ≡ firstCause (drop 3 (drop 7 (causes s (instance n p m ss))))
-  after-levels e = first-after 3 (drop 7 cs) (none-numbered (take 3 (drop 7 cs)) tt e)

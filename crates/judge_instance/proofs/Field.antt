@@ -6,16 +6,16 @@ use native.Mathlib.Omega.{arith}
 use Prim.Native.Nat.{_*_, _+_, _<_, _≤_, suc, ℕ}
 use Rattle.context.proofs.Parts.{part-length}
 use Rattle.context.specs.Holds.{Known, Sized}
-use Rattle.context.specs.Store.{Store, afterDefinitions, codesOf, contextSlot, fieldCode, firstAt, instanceKind, kindAt, linkAt, orderOf, orderSlot, sourceAt, viaAt}
+use Rattle.context.specs.Store.{Store, fieldCode, firstAt, instanceKind, kindAt, linkAt, orderOf, orderSlot, sourceAt, viaAt}
 use Rattle.context.specs.declared.Counts.{Counts}
 use Rattle.context.specs.declared.Row.{Row}
 use Rattle.instancing.specs.Bringing.{bringAll, instanceRow, instancing}
 use Rattle.limits.specs.Limits.{maxDefinitions}
-use Rattle.limits.specs.Sizes.{columnCount, contextLength, maxFields}
-use Rattle.standing.specs.Grows.{Grows, RowsKept}
-use Rattle.judge_instance.proofs.Bringing.{Longer, all-codes, all-context-slot, all-contexts-size, all-facts, all-facts-size, all-heads-size, all-link, all-names, all-open, all-order, all-slot, all-source, longer-both, noted-codes, noted-facts, noted-first, noted-kind, noted-link, noted-names, noted-open, noted-order, noted-source, noted-via}
+use Rattle.limits.specs.Sizes.{columnCount, maxFields}
+use Rattle.standing.specs.Grows.{RowsKept}
+use Rattle.judge_instance.proofs.Bringing.{all-facts, all-facts-size, all-link, all-names, all-source, noted-facts, noted-first, noted-kind, noted-link, noted-names, noted-source, noted-via}
 
-module _ (v : Store) (c : Counts) (sized : Sized v c) (room : c .fields < maxFields) (name p q at written : ℕ) (earlier : q < c .modules)
+module _ (v : Store) (c : Counts) (sized : Sized v c) (room : c .fields < maxFields) (name p q at written : ℕ)
     (few : c .definitions + getD (v .heads) (orderSlot q) 0 ≤ maxDefinitions) where
   -- the definitions of the module instanced, and how many
   abbrev pub broughtFrom : List ℕ
@@ -49,9 +49,6 @@ module _ (v : Store) (c : Counts) (sized : Sized v c) (room : c .fields < maxFie
   wide : columnCount * code + 5 < length (half .facts)
   wide = rw (all-facts-size (c .modules) p name (c .fields + 1) broughtFrom v (c .definitions)) (omega (arith, sized .facts))
 
-  slot-room : (m : ℕ) → m ≤ c .modules → getD (v .heads) (contextSlot m) 0 + broughtCount < contextLength
-  slot-room m h = omega (arith, sized .context-room m h)
-
   pub rows-kept : RowsKept v c instanced
   unfolding instancing
   rows-kept =
@@ -62,49 +59,6 @@ module _ (v : Store) (c : Counts) (sized : Sized v c) (room : c .fields < maxFie
         facts = λ o i k l.
             noted-facts (c .modules) code name rowThere half o i (old-earlier o k) l
             ∙ all-facts (c .modules) p name (c .fields + 1) broughtFrom v (c .definitions) o i (old-apart o k) l;
-      }
-
-  half-slot : (m : ℕ) → m < c .modules → getD (half .heads) (contextSlot m) 0 ≤ contextLength
-  half-slot m h =
-      rw (all-context-slot (c .modules) p name (c .fields + 1) (sized .modules) m h broughtFrom v (c .definitions)) (omega (arith, slot-room m (omega arith)))
-
-  codes-kept : (m : ℕ) → m < c .modules → codesOf instanced m ≡ codesOf v m
-  unfolding instancing
-  codes-kept m h =
-      noted-codes (c .modules) code name rowThere half (sized .modules) m h (half-slot m h)
-      ∙ all-codes (c .modules) p name (c .fields + 1) (sized .modules) m h broughtFrom v (c .definitions) (omega (arith, slot-room m (omega arith)))
-
-  orders-kept : (m : ℕ) → m < c .modules → orderOf (instanced .orders) (instanced .heads) m ≡ orderOf (v .orders) (v .heads) m
-  unfolding instancing
-  orders-kept m h =
-      noted-order (c .modules) code name rowThere half (sized .modules) m (omega (arith, sized .modules))
-      ∙ all-order (c .modules) p name (c .fields + 1) (sized .modules) m h broughtFrom v (c .definitions) (omega (arith, sized .order-room m (omega arith), sized .definitions))
-
-  open-longer : Longer (codesOf v (c .modules)) (codesOf instanced (c .modules))
-  unfolding instancing
-  open-longer =
-      let k = c .modules in
-      let r = slot-room k (omega arith) in
-      longer-both (codesOf v k) (codesOf half k) (codesOf instanced k)
-      (all-open k p name (c .fields + 1) (sized .modules) broughtFrom v (c .definitions) (sized .heads) (sized .contexts) (omega (arith, count-length)))
-      (noted-open k code name rowThere half (sized .modules)
-      (all-heads-size k p name (c .fields + 1) (sized .modules) broughtFrom v (c .definitions) ∙ sized .heads)
-      (all-contexts-size k p name (c .fields + 1) (sized .modules) broughtFrom v (c .definitions) ∙ sized .contexts)
-      (omega (arith, count-length, all-slot k p name (c .fields + 1) (sized .modules) broughtFrom v (c .definitions) (sized .heads))))
-
-  -- What an INSTANCE field leaves of the arrays.
-  pub grows-instance : Grows v c instanced (afterDefinitions broughtCount c)
-  grows-instance =
-      record {
-        names = rows-kept .names;
-        facts = rows-kept .facts;
-        contexts = codes-kept;
-        orders = orders-kept;
-        more = open-longer .0;
-        open-context = open-longer .1;
-        fields = omega arith;
-        modules = omega arith;
-        definitions = omega arith;
       }
 
   -- The new definitions: where each comes from, and the field that brought it.

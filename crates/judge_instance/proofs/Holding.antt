@@ -1,4 +1,4 @@
--- Where cause 16 is clear too, the arrays show the state after the field.
+-- The arrays show the state after the field.
 use mathlib.Core.Bool.{false}
 use mathlib.Core.List.{List, []}
 use mathlib.Core.Path.{_≡_}
@@ -25,7 +25,6 @@ use Rattle.worlds.proofs.Fields.{all-both}
 
 module _ (v : Store) (c : Counts) (s : State) (holds : Holds v c s) (good : Good s) (within : Within s) (room : c .fields < maxFields) (n p m q at noted : ℕ)
     (ss : List Substitution) (earlier : q < c .modules) (found : source s m ≡ moduleNo s q) (few : c .definitions + getD (v .heads) (orderSlot q) 0 ≤ maxDefinitions) where
-  -- The arrays show the state after the field.
   pub holds-after : Paths s → p ≤ maxArity → hasNamedInstance (source s m) ≡ false
       → Holds (instancing c n p q at noted v) (afterDefinitions (getD (v .heads) (orderSlot q) 0) c) (add s (instance n p m ss))
   holds-after paths small clear =

@@ -1,4 +1,4 @@
--- One lemma for each way through the functions that judge the levels of substitutes.
+-- One lemma for each way through the functions that judge what comes after the names.
 use borrow.Author.Tests.{eq-eqb, eqb-true, ne-eqb}
 use mathlib.Core.Bool.{Bool, _&&_, _||_, cond, false, not, or-assoc, or-false, true}
 use mathlib.Core.List.{List, _∷_}
@@ -9,7 +9,7 @@ use native.Mathlib.Omega.{arith}
 use Prim.Native.Nat.{_*_, _+_, _-_, _<_, _≤_, suc, zero, ℕ}
 use Rattle.context.proofs.Judging.{kindAnswered, kindOf}
 use Rattle.context.proofs.Parts.{part-end, part-turn}
-use Rattle.context.specs.Lookup.{asCode, declaredNamed, isDeclared, operatorIn}
+use Rattle.context.specs.Lookup.{asCode, declaredNamed, instanceAmong, isDeclared, operatorIn}
 use Rattle.context.specs.Parts.{part}
 use Rattle.context.specs.Store.{contextCodes, contextSlot, kindAt}
 use Rattle.context.specs.declared.Operator.{Operator}
@@ -25,7 +25,7 @@ use Rattle.theory.proofs.Lists.{never}
 use Rattle.theory.specs.Lists.{numbersFrom}
 use Rattle.theory.specs.Term.{Kind, constant, variable}
 use Rattle.judge_instance.specs.Constancy.{constantCodes}
-use Rattle.judge_instance.specs.Levels.{LevelFound, LevelsJudged, LevelsSeen, Tested, answers, isAt, isFree, isIncorrect, isMixed, isUnlawful, levelCauses, levelsCause, ownKind, seenWith}
+use Rattle.judge_instance.specs.Levels.{LaterJudged, LevelFound, LevelsSeen, Tested, answers, isAt, isFree, isIncorrect, isMixed, isUnlawful, laterCause, laterCauses, ownKind, seenWith}
 use Rattle.judge_instance.specs.declared.lawful.Seen.{Seen}
 
 pub eqb-turn : (a b : ℕ) → eqb a b ≡ eqb b a
@@ -97,22 +97,27 @@ module _ (b : Bool) (seen : Seen) where
   unfolding isMixed
   mixed-other e = rw e refl
 
-  pub seen-12 : seen .incorrect ≡ true → 12 ≡ levelsCause b seen
-  unfolding levelsCause levelCauses
-  seen-12 e = rw e refl
+  module _ (named : Bool) where
+    pub seen-12 : seen .incorrect ≡ true → 12 ≡ laterCause b seen named
+    unfolding laterCause laterCauses
+    seen-12 e = rw e refl
 
-  pub seen-14 : seen .incorrect ≡ false → seen .unlawful ≡ true → 14 ≡ levelsCause b seen
-  unfolding levelsCause levelCauses
-  seen-14 e f = rw (e, f) refl
+    pub seen-14 : seen .incorrect ≡ false → seen .unlawful ≡ true → 14 ≡ laterCause b seen named
+    unfolding laterCause laterCauses
+    seen-14 e f = rw (e, f) refl
 
-  module _ (r : Bool) (h : r ≡ isMixed b seen) where
-    pub seen-21 : seen .incorrect ≡ false → seen .unlawful ≡ false → r ≡ true → 21 ≡ levelsCause b seen
-    unfolding levelsCause levelCauses
-    seen-21 e f g = rw (sym h, g, e, f) refl
+    module _ (r : Bool) (h : r ≡ isMixed b seen) where
+      pub seen-21 : seen .incorrect ≡ false → seen .unlawful ≡ false → r ≡ true → 21 ≡ laterCause b seen named
+      unfolding laterCause laterCauses
+      seen-21 e f g = rw (sym h, g, e, f) refl
 
-    pub seen-0 : seen .incorrect ≡ false → seen .unlawful ≡ false → r ≡ false → 0 ≡ levelsCause b seen
-    unfolding levelsCause levelCauses
-    seen-0 e f g = rw (sym h, g, e, f) refl
+      pub seen-16 : seen .incorrect ≡ false → seen .unlawful ≡ false → r ≡ false → named ≡ true → 16 ≡ laterCause b seen named
+      unfolding laterCause laterCauses
+      seen-16 e f g i = rw (sym h, g, e, f, i) refl
+
+      pub seen-0 : seen .incorrect ≡ false → seen .unlawful ≡ false → r ≡ false → named ≡ false → 0 ≡ laterCause b seen named
+      unfolding laterCause laterCauses
+      seen-0 e f g i = rw (sym h, g, e, f, i) refl
 
 -- is_answer
 module _ (kind : ℕ) (x : Operator) where
@@ -230,12 +235,12 @@ seen-whole a site codes b r contexts heads q count e t =
     subst (λ (n : ℕ). LevelsSeen a site codes b (part contexts (q * contextLength) n) r) (z ∙ e) t
 
 -- cause_in
-pub levels-judged : (a : Around) (site : Site) (codes gs : List ℕ) (b : Bool) (seen : Seen) (r : ℕ) → b ≡ constantCodes (a .words) (a .facts) codes gs
-    → LevelsSeen a site codes b codes seen → r ≡ levelsCause b seen → LevelsJudged a site codes gs r
-levels-judged a site codes gs b seen r e l c = record { constant = b; seen = seen; constancy = e; levels = l; cause = c }
+pub later-judged : (a : Around) (site : Site) (codes gs : List ℕ) (b : Bool) (seen : Seen) (named : Bool) (r : ℕ) → b ≡ constantCodes (a .words) (a .facts) codes gs
+    → LevelsSeen a site codes b codes seen → named ≡ instanceAmong (a .facts) codes → r ≡ laterCause b seen named → LaterJudged a site codes gs r
+later-judged a site codes gs b seen named r e l n c = record { constant = b; seen = seen; named = named; constancy = e; levels = l; instances = n; cause = c }
 
--- substitutes_cause
-pub levels-own : (s refs numbers words names facts contexts heads : List ℕ) (site : Site) (codes gs : List ℕ) (r : ℕ) → numbers ≡ numbersFrom 0 maxDefinitions
-    → LevelsJudged (around s refs numbers words names facts contexts heads) site codes gs r → LevelsJudged (around s refs itselves words names facts contexts heads) site codes gs r
-levels-own s refs numbers words names facts contexts heads site codes gs r e j =
-    subst (λ (l : List ℕ). LevelsJudged (around s refs l words names facts contexts heads) site codes gs r) e j
+-- later_cause
+pub later-own : (s refs numbers words names facts contexts heads : List ℕ) (site : Site) (codes gs : List ℕ) (r : ℕ) → numbers ≡ numbersFrom 0 maxDefinitions
+    → LaterJudged (around s refs numbers words names facts contexts heads) site codes gs r → LaterJudged (around s refs itselves words names facts contexts heads) site codes gs r
+later-own s refs numbers words names facts contexts heads site codes gs r e j =
+    subst (λ (l : List ℕ). LaterJudged (around s refs l words names facts contexts heads) site codes gs r) e j

@@ -1,4 +1,4 @@
--- What the tests of the codes say is what causes 12, 14 and 21 ask.
+-- What the tests of the codes say is what the causes after the names ask.
 use borrow.Author.Tests.{eqb-true, le-leb, leb-true, lt-leb, lt-ltb, ltb-false, ltb-true}
 use mathlib.Core.Bool.{Bool, _&&_, _||_, cond, false, not, true}
 use mathlib.Core.List.{List, [], _∷_, map}
@@ -9,9 +9,9 @@ use lib.ListN.{getD, length}
 use native.Mathlib.Nat.{zero-add}
 use native.Mathlib.Omega.{arith}
 use Prim.Native.Nat.{_+_, _-_, _<_, _≤_, suc, zero, ℕ}
-use Rattle.context.proofs.Judging.{any-declared-law, any-each, any-map, kind-law, kindAnswered, kindOf}
+use Rattle.context.proofs.Judging.{any-declared-law, any-each, any-map, kind-law, kindAnswered, kindOf, named-instance-law}
 use Rattle.context.specs.Holds.{Holds, moduleNo}
-use Rattle.context.specs.Lookup.{asCode, declaredNamed, isDeclared, operatorIn}
+use Rattle.context.specs.Lookup.{asCode, declaredNamed, instanceAmong, isDeclared, operatorIn}
 use Rattle.context.specs.Store.{Store, codesOf, countAt, entryAt, fieldCode, firstAt, kindAt, orderOf, variableKind}
 use Rattle.context.specs.declared.Counts.{Counts}
 use Rattle.entering.specs.Implied.{argumentsOf, impliedLevel, impliedRef}
@@ -32,7 +32,7 @@ use Rattle.resolve.specs.Meaning.{Numbered}
 use Rattle.rules.specs.Expression.{Expression}
 use Rattle.rules.specs.Field.{Field, Substitution}
 use Rattle.rules.specs.Instance.{declaredIn, isConstant, isKind, isVariable, kindIn, lawful, sameKind, source, substitute, substituteLevel, substituteOr, substitutionFor}
-use Rattle.rules.specs.Judge.{instanceUnknown, mixedSubstitutes, substituteNotLevelCorrect, unlawfulSubstitute}
+use Rattle.rules.specs.Judge.{hasNamedInstance, instanceUnknown, mixedSubstitutes, substituteNotLevelCorrect, unlawfulSubstitute}
 use Rattle.rules.specs.State.{Module, State, cardLevel, declares, defines, here, instances, levelOf, operatorNamed, paramsOf, templatesOf, zeros}
 use Rattle.standing.specs.Standing.{itselves}
 use Rattle.text_levels.proofs.OwnWorld.{Shows}
@@ -47,7 +47,7 @@ use Rattle.judge_instance.proofs.Levels.{highest-zero, implied-zero, it
 use Rattle.judge_instance.proofs.Linking.{itself-known, substitute-declared}
 use Rattle.instance_names.specs.Names.{Agrees}
 use Rattle.judge_instance.specs.Constancy.{constantCodes, isVariableCode, unevenAmong, unevenForm, variableAmong}
-use Rattle.judge_instance.specs.Levels.{LevelFound, LevelsSeen, Tested, answers, isAt, isIncorrect, isMixed, isUnlawful, levelCauses, ownKind}
+use Rattle.judge_instance.specs.Levels.{LevelFound, LevelsSeen, Tested, answers, isAt, isIncorrect, isMixed, isUnlawful, laterCauses, ownKind}
 use Rattle.judge_instance.specs.declared.lawful.Seen.{Seen}
 
 -- kinds
@@ -293,14 +293,17 @@ module _ (v : Store) (c : Counts) (s : State) (holds : Holds v c s) (fs : List F
       (ap (any (unevenForm words)) (ap (λ (N : Module). N .definitions) (holds .shown q (omega arith) ∙ sym found))
       ∙ all-even (M .definitions) (source-known (length (s .definitions)) s m (good .ended) .1))
 
-  -- What was seen decides causes 12, 14 and 21.
-  pub levels-law : (b : Bool) → b ≡ constantCodes words facts codes (orderOf (v .orders) (v .heads) q) → (seen : Seen) → LevelsSeen aroundHere siteHere codes b codes seen
-      → levelCauses b seen
-      ≡ (12, substituteNotLevelCorrect s p (source s m) ss) ∷ (14, unlawfulSubstitute s p (source s m) ss) ∷ (21, mixedSubstitutes s p (source s m) ss) ∷ []
-  unfolding levelCauses isMixed
-  levels-law b e seen l =
+  -- What was seen decides these causes.
+  pub later-law : (b : Bool) → b ≡ constantCodes words facts codes (orderOf (v .orders) (v .heads) q) → (seen : Seen) → LevelsSeen aroundHere siteHere codes b codes seen
+      → (instanced : Bool) → instanced ≡ instanceAmong facts codes
+      → laterCauses b seen instanced
+      ≡ (12, substituteNotLevelCorrect s p (source s m) ss) ∷ (14, unlawfulSubstitute s p (source s m) ss) ∷ (21, mixedSubstitutes s p (source s m) ss)
+      ∷ (16, hasNamedInstance (source s m)) ∷ []
+  unfolding laterCauses isMixed
+  later-law b e seen l instanced i =
       ap₂ _∷_ (ap (λ (x : Bool). (12, x)) (any-tested isIncorrect incorrect-fine (seen .incorrect) (l .incorrect)))
-      (ap₂ _∷_ (ap (λ (x : Bool). (14, x)) unlawfully) (ap₂ _∷_ (ap (λ (x : Bool). (21, x)) (ap₂ _&&_ same (ap₂ _&&_ two three))) refl))
+      (ap₂ _∷_ (ap (λ (x : Bool). (14, x)) unlawfully)
+      (ap₂ _∷_ (ap (λ (x : Bool). (21, x)) (ap₂ _&&_ same (ap₂ _&&_ two three))) (ap₂ _∷_ (ap (λ (x : Bool). (16, x)) (i ∙ sixteen)) refl)))
     where
       same : b ≡ isConstant s M
       same = e ∙ constant-law
@@ -315,3 +318,6 @@ module _ (v : Store) (c : Counts) (s : State) (holds : Holds v c s) (fs : List F
 
       three : seen .temporal ≡ any (eqb 3) (map (substituteLevel s p M ss) (declaredIn M))
       three = any-tested (isAt 3) three-fine (seen .temporal) (l .temporal) ∙ sym (any-map (substituteLevel s p M ss) (eqb 3) (declaredIn M))
+
+      sixteen : instanceAmong facts codes ≡ hasNamedInstance (source s m)
+      sixteen = named-instance-law v c s holds q (omega arith) ∙ ap hasNamedInstance (sym found)

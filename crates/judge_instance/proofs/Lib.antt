@@ -3,8 +3,7 @@ pub mod Field
 pub mod Implied
 pub mod Linking
 pub mod Chaining
-pub mod Brought
-pub mod Covering
+pub mod Clearing
 pub mod Holding
 pub mod Levels
 pub mod LevelLaws

@@ -39,7 +39,7 @@ use Rattle.theory.specs.Expand.{itself}
 use Rattle.theory.specs.Lists.{All, any, find, isSome, mapOption, orElse}
 use Rattle.theory.specs.Term.{Head, Kind, constant, declared, leaf, literal, variable}
 use Rattle.worlds.specs.Rows.{linkOf}
-use Rattle.judge_instance.proofs.Field.{field-first, field-kind, field-link, field-source, field-via, grows-instance}
+use Rattle.judge_instance.proofs.Field.{field-first, field-kind, field-link, field-source, field-via}
 use Rattle.judge_instance.proofs.Implied.{implied-found}
 use Rattle.instance_names.specs.Names.{Agrees}
 
@@ -107,32 +107,30 @@ module _ (v : Store) (c : Counts) (s : State) (holds : Holds v c s) where
 
 module _ (v : Store) (c : Counts) (s : State) (holds : Holds v c s) (fs : List Field) (declares : Declares (v .facts) c fs) (origins : Origins fs s) (good : Good s)
     (room : c .fields < maxFields) (n p m q at k : ℕ) (ss : List Substitution) (earlier : q < c .modules) (found : source s m ≡ moduleNo s q)
-    (few : c .definitions + getD (v .heads) (orderSlot q) 0 ≤ maxDefinitions) (small : k < ownerShift) (known : instanceUnknown s p (source s m) ss ≡ false) where
+    (few : c .definitions + getD (v .heads) (orderSlot q) 0 ≤ maxDefinitions) (small : k < ownerShift) (known : instanceUnknown s p (source s m) ss ≡ false)
+    (grows : Grows v c (instancing c n p q at (k + ownerShift * c .modules) v) (afterDefinitions (getD (v .heads) (orderSlot q) 0) c)) where
   abbrev decls : Declarations
   decls = declarationsOf fs
 
   -- how many substitutions are written, and the module that the field stands in
-  abbrev pub noted : ℕ
+  abbrev noted : ℕ
   noted = k + ownerShift * c .modules
 
-  abbrev pub store-after : Store
+  abbrev store-after : Store
   store-after = instancing c n p q at noted v
 
-  abbrev pub counts-after : Counts
+  abbrev counts-after : Counts
   counts-after = afterDefinitions (getD (v .heads) (orderSlot q) 0) c
-
-  pub store-grows : Grows v c store-after counts-after
-  store-grows = grows-instance v c (holds .sized) room n p q at noted earlier few
 
   declaration-after : (d : Kind) (x : ℕ) → kindIn (source s m) x ≡ some d → Declaration store-after q d x
   declaration-after d x e =
       let o = declaration-there v c s holds q (omega arith) d x (subst (λ (M : Module). kindIn M x ≡ some d) found e) in
-      let given = declared-known v c s store-after counts-after holds store-grows q x (o .code) earlier (o .found) in
+      let given = declared-known v c s store-after counts-after holds grows q x (o .code) earlier (o .found) in
       record {
         code = o .code;
-        found = declared-kept v c s store-after counts-after holds store-grows q x (o .code) earlier (o .found);
-        kind = kind-kept v c store-after (rows-of store-grows) (o .code) given ∙ o .kind;
-        named = store-grows .names (o .code) given ∙ o .named;
+        found = declared-kept v c s store-after counts-after holds grows q x (o .code) earlier (o .found);
+        kind = kind-kept v c store-after (rows-of grows) (o .code) given ∙ o .kind;
+        named = grows .names (o .code) given ∙ o .named;
       }
 
   -- a name that stands for itself
@@ -141,7 +139,7 @@ module _ (v : Store) (c : Counts) (s : State) (holds : Holds v c s) (fs : List F
   implied-after d x e w =
       let h = itself-known s p (source s m) ss known d x e w in
       let f = implied-found v c s holds fs declares origins good x (h .0) (h .1) in
-      let z = implied-kept v c s store-after counts-after holds store-grows (c .modules) x (omega arith) (omega (arith, f .0, few-declarations (v .facts) c fs declares)) in
+      let z = implied-kept v c s store-after counts-after holds grows (c .modules) x (omega arith) (omega (arith, f .0, few-declarations (v .facts) c fs declares)) in
       record {
         below = rw z (f .0);
         same =
@@ -172,15 +170,15 @@ module _ (v : Store) (c : Counts) (s : State) (holds : Holds v c s) (fs : List F
           start = at;
           count = k;
           code = (omega arith, omega arith);
-          params = field-kind v c (holds .sized) room n p q at noted earlier few;
-          first = field-first v c (holds .sized) room n p q at noted earlier few ∙ holds .definitions;
-          via = field-via v c (holds .sized) room n p q at noted earlier few;
-          source = field-source v c (holds .sized) room n p q at noted earlier few;
-          link = field-link v c (holds .sized) room n p q at noted earlier few;
+          params = field-kind v c (holds .sized) room n p q at noted few;
+          first = field-first v c (holds .sized) room n p q at noted few ∙ holds .definitions;
+          via = field-via v c (holds .sized) room n p q at noted few;
+          source = field-source v c (holds .sized) room n p q at noted few;
+          link = field-link v c (holds .sized) room n p q at noted few;
           few = small;
           ended = earlier;
           stood = (earlier, omega arith);
-          names = store-grows .orders q earlier ∙ ap (λ (M : Module). M .definitions) (holds .shown q (omega arith) ∙ sym found);
+          names = grows .orders q earlier ∙ ap (λ (M : Module). M .definitions) (holds .shown q (omega arith) ∙ sym found);
           kinds = declaration-after;
           substitutes = stands-after;
         }

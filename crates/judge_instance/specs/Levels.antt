@@ -1,4 +1,5 @@
--- Causes 12, 14 and 21, code by code: the level, with parameters at 0, of what stands for each declaration of the module instanced.
+-- The causes that come after the names. 12, 14 and 21 code by code: the level, with parameters at 0, of what stands for each declaration of the module
+-- instanced.
 use mathlib.Core.Bool.{Bool, _&&_, _||_, false, not, true}
 use mathlib.Core.List.{List, [], _∷_}
 use mathlib.Core.Path.{_≡_}
@@ -6,7 +7,7 @@ use Prim.Native.Nat.{ℕ}
 use lib.Dec.{eqb}
 use lib.ListN.{getD}
 use Rattle.context.proofs.Judging.{kindAnswered, kindOf}
-use Rattle.context.specs.Lookup.{asCode, declaredNamed, isDeclared, operatorIn}
+use Rattle.context.specs.Lookup.{asCode, declaredNamed, instanceAmong, isDeclared, operatorIn}
 use Rattle.context.specs.Store.{kindAt}
 use Rattle.context.specs.declared.Operator.{Operator}
 use Rattle.entering.specs.Substitutes.{Around, Stands}
@@ -80,16 +81,18 @@ seenWith constant seen k l =
 unfoldable pub isMixed : Bool → Seen → Bool
 isMixed constant seen = constant && (seen .transition && seen .temporal)
 
--- the causes of levels, in the order of the rules, and the first that holds
-unfoldable pub levelCauses : Bool → Seen → List Cause
-levelCauses constant seen = (12, seen .incorrect) ∷ (14, seen .unlawful) ∷ (21, isMixed constant seen) ∷ []
+-- the causes after the names, in the order of the rules, and the first that holds; `named` says whether the module instanced has a named instance
+unfoldable pub laterCauses : Bool → Seen → Bool → List Cause
+laterCauses constant seen named = (12, seen .incorrect) ∷ (14, seen .unlawful) ∷ (21, isMixed constant seen) ∷ (16, named) ∷ []
 
-unfoldable pub levelsCause : Bool → Seen → ℕ
-levelsCause constant seen = causeNumber (firstCause (levelCauses constant seen))
+unfoldable pub laterCause : Bool → Seen → Bool → ℕ
+laterCause constant seen named = causeNumber (firstCause (laterCauses constant seen named))
 
-pub record LevelsJudged (a : Around) (site : Site) (codes gs : List ℕ) (r : ℕ) : Type 0 where
+pub record LaterJudged (a : Around) (site : Site) (codes gs : List ℕ) (r : ℕ) : Type 0 where
   pub constant : Bool
   pub seen : Seen
+  pub named : Bool
   pub constancy : constant ≡ constantCodes (a .words) (a .facts) codes gs
   pub levels : LevelsSeen a site codes constant codes seen
-  pub cause : r ≡ levelsCause constant seen
+  pub instances : named ≡ instanceAmong (a .facts) codes
+  pub cause : r ≡ laterCause constant seen named

@@ -1,4 +1,4 @@
-// What an INSTANCE field adds, and causes 15 and 16.
+// An INSTANCE field whose names are right: the causes that are left, and what it adds if none of them holds.
 ghost use mathlib.Core.Path.{_≡_};
 ghost use Prim.Native.Nat.{_+_, _-_, _*_, _≤_};
 ghost use lib.ListN.{getD, length};
@@ -6,48 +6,17 @@ ghost use Rattle.limits.specs.Limits.{maxDeclarations, maxDefinitions};
 ghost use Rattle.chains.specs.Results.{BroughtForms};
 ghost use Rattle.context.specs.Store.{afterDefinitions, orderSlot, store};
 ghost use Rattle.instancing.specs.Bringing.{instancing};
-ghost use Rattle.judge_plain.specs.Causes.{answer};
-ghost use Rattle.judge_plain.specs.declared.Phase.the-variants.{Inside};
 ghost use Rattle.levels.specs.Tables.{tableWords};
 ghost use Rattle.standing.specs.Shown.{ownerShift};
-ghost use Rattle.judge_instance.specs.Brought.{Bringable, FieldBrought, FieldLawful, broughtCause};
-use crate::lawful::substitutes_cause;
+ghost use Rattle.judge_instance.specs.Brought.{Bringable, FieldBrought, FieldLawful};
+use crate::lawful::later_cause;
 use chains::brought::brought_forms;
 use context::Counts;
-use context::lookup::has_named_instance;
 use entering::substitutes::Site;
 use instancing::add_instance;
 use judge_plain::Judged;
 use judge_plain::Phase;
 use judge_plain::refused;
-
-// The first of the causes 15 and 16 that holds: a definition brought has level 4; the module instanced has a named instance.
-fn brought_cause(bad: bool, named: bool) -> u8
-    ensures { λ r. ⌜ r ≡ broughtCause bad named ⌝ }
-{
-    if bad {
-        return 15;
-    }
-    if named {
-        return 16;
-    }
-    0
-}
-
-// The answer: that cause, or the counts after the field.
-fn brought_answer(bad: bool, named: bool, phase: Phase, c: Counts, after: Counts) -> Judged
-    ensures { λ r. ⌜ r ≡ answer (broughtCause bad named) phase c Inside after ⌝ }
-{
-    let cause = brought_cause(bad, named);
-    if cause != 0 {
-        return refused(cause, phase, c);
-    }
-    Judged {
-        cause: 0,
-        phase: Phase::Inside,
-        counts: after,
-    }
-}
 
 // Adds the field, of module q.
 fn add_field(
@@ -83,7 +52,7 @@ fn add_field(
     )
 }
 
-// The forms of the definitions that came between two counts; whether one of them has level 4.
+// The forms of the definitions that came between two counts.
 fn forms_between(
     file: &[u8],
     refs: &[u16],
@@ -96,9 +65,9 @@ fn forms_between(
     declared: &[u16],
     c: Counts,
     after: Counts,
-) -> bool
+)
     requires { ⌜ (length (now words) ≡ tableWords) × (c .declarations ≤ maxDeclarations) × (c .definitions ≤ after .definitions) × (after .definitions ≤ maxDefinitions) ⌝ }
-    ensures { λ r. ⌜ BroughtForms (now (file .entry)) (now (refs .entry)) (store (now (names .entry)) (now (facts .entry)) (now (contexts .entry)) (now (orders .entry)) (now (heads .entry))) (now (declared .entry)) (c .declarations) (c .definitions) (after .definitions - c .definitions) (now (words .entry)) (now (words .exit)) r ⌝ }
+    ensures { λ r. ⌜ BroughtForms (now (file .entry)) (now (refs .entry)) (store (now (names .entry)) (now (facts .entry)) (now (contexts .entry)) (now (orders .entry)) (now (heads .entry))) (now (declared .entry)) (c .declarations) (c .definitions) (after .definitions - c .definitions) (now (words .entry)) (now (words .exit)) ⌝ }
 {
     let first = c.definitions;
     let count = after.definitions - first;
@@ -115,7 +84,7 @@ fn forms_between(
         c.declarations,
         first,
         count,
-    )
+    );
 }
 
 // Adds the field, of module q, and works out the forms of what it brings.
@@ -129,7 +98,6 @@ pub fn bring_field(
     refs: &[u16],
     words: &mut [u64],
     declared: &[u16],
-    phase: Phase,
     c: Counts,
     name: u16,
     params: u8,
@@ -138,9 +106,8 @@ pub fn bring_field(
     at: usize,
 ) -> Judged
     requires { ⌜ Bringable (now names) (now facts) (now contexts) (now orders) (now heads) (now words) c params q at ⌝ }
-    ensures { λ r. ⌜ FieldBrought (now (file .entry)) (now (refs .entry)) (store (now (names .entry)) (now (facts .entry)) (now (contexts .entry)) (now (orders .entry)) (now (heads .entry))) (store (now (names .exit)) (now (facts .exit)) (now (contexts .exit)) (now (orders .exit)) (now (heads .exit))) c phase name params q count at (now (words .entry)) (now (words .exit)) (now (declared .entry)) r ⌝ }
+    ensures { λ r. ⌜ FieldBrought (now (file .entry)) (now (refs .entry)) (store (now (names .entry)) (now (facts .entry)) (now (contexts .entry)) (now (orders .entry)) (now (heads .entry))) (store (now (names .exit)) (now (facts .exit)) (now (contexts .exit)) (now (orders .exit)) (now (heads .exit))) c name params q count at (now (words .entry)) (now (words .exit)) (now (declared .entry)) r ⌝ }
 {
-    let named = has_named_instance(facts, contexts, heads, q);
     let after = add_field(
         names,
         facts,
@@ -155,7 +122,7 @@ pub fn bring_field(
         count,
         at,
     );
-    let bad = forms_between(
+    forms_between(
         file,
         refs,
         words,
@@ -168,10 +135,14 @@ pub fn bring_field(
         c,
         after,
     );
-    brought_answer(bad, named, phase, c, after)
+    Judged {
+        cause: 0,
+        phase: Phase::Inside,
+        counts: after,
+    }
 }
 
-// Judges what stands for the declarations of module q, and brings the field if it is lawful.
+// Judges what comes after the names, and brings the field, of module q, if it is lawful.
 pub fn lawful_field(
     file: &[u8],
     names: &mut [u16],
@@ -200,7 +171,7 @@ pub fn lawful_field(
         start: at,
         count: count as usize,
     };
-    let cause = substitutes_cause(
+    let cause = later_cause(
         file,
         refs,
         words,
@@ -225,7 +196,6 @@ pub fn lawful_field(
         refs,
         words,
         declared,
-        phase,
         c,
         name,
         params,

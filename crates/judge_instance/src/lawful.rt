@@ -1,4 +1,5 @@
-// Causes 12, 14 and 21: the levels, with parameters at 0, of what stands for the declarations of the module instanced, by one walk over them.
+// The causes that come after the names: 12, 14 and 21 by the levels, with parameters at 0, of what stands for the declarations of the module instanced,
+// seen in one walk over them; then 16.
 ghost use mathlib.Core.Bool.{_&&_, _||_};
 ghost use mathlib.Core.Path.{_≡_};
 ghost use Prim.Native.Nat.{_-_, _≤_};
@@ -11,12 +12,13 @@ ghost use Rattle.entering.specs.Substitutes.{Fitting, around};
 ghost use Rattle.levels.specs.Tables.{tableWords};
 ghost use Rattle.rules.specs.Instance.{lawful};
 ghost use Rattle.standing.specs.Standing.{itselves};
-ghost use Rattle.judge_instance.specs.Levels.{LevelFound, LevelsJudged, LevelsSeen, answers, isFree, isMixed, levelsCause, ownKind, seenWith};
+ghost use Rattle.judge_instance.specs.Levels.{LaterJudged, LevelFound, LevelsSeen, answers, isFree, isMixed, laterCause, ownKind, seenWith};
 use crate::constancy::is_constant;
 use context::Kinds;
 use context::Operator;
 use context::lists::number_at;
 use context::lookup::find_declared;
+use context::lookup::has_named_instance;
 use context::lookup::is_declared;
 use entering::substitutes::Site;
 use entering::substitutes::substitute_form;
@@ -98,9 +100,9 @@ fn is_mixed(constant: bool, seen: Seen) -> bool
     false
 }
 
-// The first of the causes 12, 14 and 21 that holds by what was seen.
-fn cause_seen(constant: bool, seen: Seen) -> u8
-    ensures { λ r. ⌜ r ≡ levelsCause constant seen ⌝ }
+// The first of these causes that holds, by what was seen and by whether the module instanced has a named instance.
+fn cause_seen(constant: bool, seen: Seen, named: bool) -> u8
+    ensures { λ r. ⌜ r ≡ laterCause constant seen named ⌝ }
 {
     let mixed = is_mixed(constant, seen);
     if seen.incorrect {
@@ -111,6 +113,9 @@ fn cause_seen(constant: bool, seen: Seen) -> u8
     }
     if mixed {
         return 21;
+    }
+    if named {
+        return 16;
     }
     0
 }
@@ -263,7 +268,7 @@ fn levels_seen(
     )
 }
 
-// The first of the causes 12, 14 and 21 that holds, in the world of the tables.
+// The first of these causes that holds, in the world of the tables.
 fn cause_in(
     s: &[u8],
     refs: &[u16],
@@ -278,7 +283,7 @@ fn cause_in(
     q: usize,
 ) -> u8
     requires { ⌜ (length (now words) ≡ tableWords) × Fitting site × (q ≤ maxModules) ⌝ }
-    ensures { λ r. ⌜ LevelsJudged (around (now (s .entry)) (now (refs .entry)) (now (numbers .entry)) (now (words .entry)) (now (names .entry)) (now (facts .entry)) (now (contexts .entry)) (now (heads .entry))) site (contextCodes (now (contexts .entry)) (now (heads .entry)) q) (orderOf (now (orders .entry)) (now (heads .entry)) q) r ⌝ }
+    ensures { λ r. ⌜ LaterJudged (around (now (s .entry)) (now (refs .entry)) (now (numbers .entry)) (now (words .entry)) (now (names .entry)) (now (facts .entry)) (now (contexts .entry)) (now (heads .entry))) site (contextCodes (now (contexts .entry)) (now (heads .entry)) q) (orderOf (now (orders .entry)) (now (heads .entry)) q) r ⌝ }
 {
     let constant = is_constant(words, facts, contexts, orders, heads, q);
     let seen = levels_seen(
@@ -294,11 +299,12 @@ fn cause_in(
         q,
         constant,
     );
-    cause_seen(constant, seen)
+    let named = has_named_instance(facts, contexts, heads, q);
+    cause_seen(constant, seen, named)
 }
 
-// The first of the causes 12, 14 and 21 that holds: no instance is around the field.
-pub fn substitutes_cause(
+// The first of these causes that holds: no instance is around the field.
+pub fn later_cause(
     s: &[u8],
     refs: &[u16],
     words: &[u64],
@@ -311,7 +317,7 @@ pub fn substitutes_cause(
     q: usize,
 ) -> u8
     requires { ⌜ (length (now words) ≡ tableWords) × Fitting site × (q ≤ maxModules) ⌝ }
-    ensures { λ r. ⌜ LevelsJudged (around (now (s .entry)) (now (refs .entry)) itselves (now (words .entry)) (now (names .entry)) (now (facts .entry)) (now (contexts .entry)) (now (heads .entry))) site (contextCodes (now (contexts .entry)) (now (heads .entry)) q) (orderOf (now (orders .entry)) (now (heads .entry)) q) r ⌝ }
+    ensures { λ r. ⌜ LaterJudged (around (now (s .entry)) (now (refs .entry)) itselves (now (words .entry)) (now (names .entry)) (now (facts .entry)) (now (contexts .entry)) (now (heads .entry))) site (contextCodes (now (contexts .entry)) (now (heads .entry)) q) (orderOf (now (orders .entry)) (now (heads .entry)) q) r ⌝ }
 {
     let mut numbers = [0u16; Limits::DEFINITIONS];
     identity(&mut numbers);

@@ -1,5 +1,4 @@
-// INSTANCE: the field whole. What it adds is added before causes 15 and 16 are judged: 15 asks for the levels of what it brings, and a file that
-// is refused is not read on.
+// INSTANCE: the field whole. All its causes are judged before anything is added.
 pub mod adding;
 pub mod constancy;
 pub mod lawful;

@@ -23,7 +23,6 @@ pub mod Region
 pub mod Steps
 -- What follows for files
 pub mod File
-pub mod Judged
 pub mod Order
 pub mod Forms
 pub mod Readings

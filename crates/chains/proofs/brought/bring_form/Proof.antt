@@ -1,6 +1,5 @@
 -- `brought::bring_form`.
 use Rattle.chains.proofs.Bringing.{form-stored}
-use mathlib.Core.Path.{refl}
 use borrow.Author.Needs.{needs}
 use Rattle.chains.proofs.brought.bring_form.Statement.{statement}
 use Rattle.chains.proofs.brought.bring_form.Tie as tie
@@ -14,16 +13,13 @@ mul-words c = search needs
 slice-write-words : tie.Need-slice-write-words
 slice-write-words c = search needs
 
-level-at-zero-requires : tie.Need-level-at-zero-requires
-level-at-zero-requires c κs = search needs
-
 same-length : tie.Need-same-length
 same-length c = search needs
 
 returns : tie.Need-returns
-returns c = form-stored _ _ _ _ _ _ _ _ _ _ (search needs) (search needs) (search needs) (c .level-at-zero .ensures) refl
+returns c = search (needs, form-stored)
 
 pub bring-form-spec : {M : Type 1} → statement M
 bring-form-spec =
     tie.close
-    (tie.spec world-form-requires mul-words slice-write-words level-at-zero-requires same-length returns)
+    (tie.spec world-form-requires mul-words slice-write-words same-length returns)

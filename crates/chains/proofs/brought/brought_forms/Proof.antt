@@ -7,11 +7,11 @@ use Rattle.chains.proofs.brought.brought_forms.Statement.{statement}
 use Rattle.chains.proofs.brought.brought_forms.Tie as tie
 
 abbrev Inv-loop : tie.InvT-loop
-Inv-loop file refs words₀ names facts contexts orders heads declared n first count incorrect₀ i₀ words incorrect i =
-    Brings file refs (store names facts contexts orders heads) declared n first count words₀ words incorrect i
+Inv-loop file refs words₀ names facts contexts orders heads declared n first count i₀ words i =
+    Brings file refs (store names facts contexts orders heads) declared n first count words₀ words i
 
 abbrev μ-loop : tie.MeasureT-loop
-μ-loop file refs words₀ names facts contexts orders heads declared n first count incorrect₀ i₀ words incorrect i =
+μ-loop file refs words₀ names facts contexts orders heads declared n first count i₀ words i =
     count - i
 
 loop-holds : tie.Need-loop-holds Inv-loop μ-loop
@@ -22,9 +22,6 @@ add-bring-form c = search needs
 
 bring-form-requires : tie.Need-bring-form-requires Inv-loop μ-loop
 bring-form-requires c κs = search needs
-
-either-requires : tie.Need-either-requires Inv-loop μ-loop
-either-requires c κs = search needs
 
 add-i : tie.Need-add-i Inv-loop μ-loop
 add-i c = search needs
@@ -50,7 +47,6 @@ brought-forms-spec =
     loop-holds
     add-bring-form
     bring-form-requires
-    either-requires
     add-i
     loop-less
     loop-again

@@ -3,20 +3,14 @@ use borrow.Author.Needs.{needs}
 use Rattle.judge_instance.proofs.adding.bring_field.Statement.{statement}
 use Rattle.judge_instance.proofs.adding.bring_field.Tie as tie
 
-has-named-instance-requires : tie.Need-has-named-instance-requires
-has-named-instance-requires c κs = search needs
-
 add-field-requires : tie.Need-add-field-requires
 add-field-requires c κs = search needs
 
 forms-between-requires : tie.Need-forms-between-requires
 forms-between-requires c κs =
     between-fits _ _ _ _ _ _ _ _ _ _ _
-    (c .before .before .before .before .before .before .before .before .before .before .before .before .before .before .before .before .before .before .before .before .before .before .before .before .before .before .before .before .before .before .before .before .before .before .before .before .pre)
+    (c .before .before .before .before .before .before .before .before .before .before .before .before .before .before .before .before .before .before .before .before .before .before .before .before .before .before .before .before .before .before .before .before .pre)
     (c .before .before .before .before .before .before .before .before .before .before .before .before .before .before .before .before .add-field .ensures .0)
-
-brought-answer-requires : tie.Need-brought-answer-requires
-brought-answer-requires c κs = search needs
 
 same-length : tie.Need-same-length
 same-length c = search needs
@@ -37,21 +31,14 @@ same-length-6 : tie.Need-same-length-6
 same-length-6 c = search needs
 
 returns : tie.Need-returns
-returns c =
-    brought-done _ _ _ _ _ _ _ _ _ _ _ _ _ _ _ _ _ _ _ _ _ _ _ _ _ _
-    (c .before .before .before .before .before .before .before .before .before .before .before .before .before .before .before .before .before .before .before .before .before .before .before .before .before .before .before .has-named-instance .ensures)
-    (c .before .before .before .before .before .before .before .before .before .before .before .before .before .before .before .before .before .before .before .before .add-field .ensures .0)
-    (c .before .before .before .before .before .before .before .before .before .before .before .before .before .before .before .before .before .before .before .before .add-field .ensures .1)
-    (c .before .before .before .forms-between .ensures) (c .brought-answer .ensures)
+returns c = search brought-done
 
 pub bring-field-spec : {M : Type 1} → statement M
 bring-field-spec =
     tie.close
     (tie.spec
-    has-named-instance-requires
     add-field-requires
     forms-between-requires
-    brought-answer-requires
     same-length
     same-length-2
     same-length-3

@@ -4,8 +4,8 @@ use borrow.Author.Needs.{needs}
 use Rattle.judge_instance.proofs.adding.lawful_field.Statement.{statement}
 use Rattle.judge_instance.proofs.adding.lawful_field.Tie as tie
 
-substitutes-cause-requires : tie.Need-substitutes-cause-requires
-substitutes-cause-requires c κs = search needs
+later-cause-requires : tie.Need-later-cause-requires
+later-cause-requires c κs = search needs
 
 refused-requires : tie.Need-refused-requires
 refused-requires c κs = search needs
@@ -29,7 +29,7 @@ same-length-6 : tie.Need-same-length-6
 same-length-6 c = search needs
 
 returns : tie.Need-returns
-returns c = lawful-not _ _ _ _ _ _ _ _ _ _ _ _ _ _ _ _ _ _ (c .before .before .substitutes-cause .ensures) _ (search needs) (c .refused .ensures) refl
+returns c = lawful-not _ _ _ _ _ _ _ _ _ _ _ _ _ _ _ _ _ _ (c .before .before .later-cause .ensures) _ (search needs) (c .refused .ensures) refl
 
 bring-field-requires : tie.Need-bring-field-requires
 bring-field-requires c κs = search needs
@@ -53,13 +53,13 @@ same-length-12 : tie.Need-same-length-12
 same-length-12 c = search needs
 
 returns-2 : tie.Need-returns-2
-returns-2 c = lawful-brought _ _ _ _ _ _ _ _ _ _ _ _ _ _ _ _ _ _ (c .before .before .before .before .before .before .before .before .before .before .before .before .before .before .before .before .before .before .before .before .substitutes-cause .ensures) _ _ _ _ _ _ _ (search needs) (c .before .before .before .before .before .before .before .before .before .before .before .before .bring-field .ensures) refl
+returns-2 c = lawful-brought _ _ _ _ _ _ _ _ _ _ _ _ _ _ _ _ _ _ (c .before .before .before .before .before .before .before .before .before .before .before .before .before .before .before .before .before .before .before .before .later-cause .ensures) _ _ _ _ _ _ _ (search needs) (c .before .before .before .before .before .before .before .before .before .before .before .before .bring-field .ensures) refl
 
 pub lawful-field-spec : {M : Type 1} → statement M
 lawful-field-spec =
     tie.close
     (tie.spec
-    substitutes-cause-requires
+    later-cause-requires
     refused-requires
     same-length
     same-length-2

@@ -1,7 +1,7 @@
-use Rattle.judge_instance.proofs.LevelCases.{levels-own}
+use Rattle.judge_instance.proofs.LevelCases.{later-own}
 use borrow.Author.Needs.{needs}
-use Rattle.judge_instance.proofs.lawful.substitutes_cause.Statement.{statement}
-use Rattle.judge_instance.proofs.lawful.substitutes_cause.Tie as tie
+use Rattle.judge_instance.proofs.lawful.later_cause.Statement.{statement}
+use Rattle.judge_instance.proofs.lawful.later_cause.Tie as tie
 
 slice-aggregate-identity : tie.Need-slice-aggregate-identity
 slice-aggregate-identity c = search needs
@@ -16,10 +16,10 @@ cause-in-requires : tie.Need-cause-in-requires
 cause-in-requires c κs = search needs
 
 returns : tie.Need-returns
-returns c = search levels-own
+returns c = search later-own
 
-pub substitutes-cause-spec : {M : Type 1} → statement M
-substitutes-cause-spec =
+pub later-cause-spec : {M : Type 1} → statement M
+later-cause-spec =
     tie.close
     (tie.spec
     slice-aggregate-identity
