@@ -7,6 +7,7 @@ use lib.ListN.{length}
 use Rattle.limits.specs.Limits.{fileBytes, maxDeclarations}
 use Rattle.rules.specs.State.{start}
 use Rattle.laws.proofs.Invariant.{good-start}
+use Rattle.laws.proofs.LevelCorrect.{level-correct-start}
 use Rattle.laws.proofs.Origins.{no-fields}
 use Rattle.laws.proofs.Within.{within-start}
 use Rattle.worlds.proofs.Depth.{depths-start}
@@ -36,6 +37,7 @@ standing-start file refs words declared a b d =
       apart = omega arith;
       origins = no-fields;
       good = good-start;
+      level-correct = level-correct-start;
       within = within-start;
       fresh = fresh-start;
       worlds = worlds-start;

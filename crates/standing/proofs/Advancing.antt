@@ -16,6 +16,7 @@ use Rattle.rules.specs.Judge.{judge}
 use Rattle.rules.specs.State.{Added, State}
 use Rattle.laws.proofs.Fields.{field-more, field-some}
 use Rattle.laws.proofs.Invariant.{good-add}
+use Rattle.laws.proofs.LevelCorrect.{level-correct-add}
 use Rattle.laws.proofs.Origins.{declaration, origins-add}
 use Rattle.laws.proofs.Paths.{paths-add}
 use Rattle.laws.proofs.Within.{within-add}
@@ -140,6 +141,7 @@ module _ (file : List ℕ) (fs : List Field) (s : State) (rs : List Row) (v : St
         apart = bytes-apart;
         origins = origins-add fs s f (stands .origins);
         good = good-add s f (at .fits) lawful (stands .good);
+        level-correct = level-correct-add s f (at .fits) lawful (stands .good) (stands .level-correct);
         within = within-add s f lawful (stands .within);
         fresh = fresh-add s f;
         paths = paths-add fs s f (stands .origins) lawful (stands .paths);

@@ -19,6 +19,7 @@ use Rattle.laws.proofs.Invariant.{Good}
 use Rattle.laws.proofs.Origins.{Origins}
 use Rattle.laws.proofs.Paths.{Paths}
 use Rattle.laws.proofs.Within.{Within}
+use Rattle.laws.specs.LawfulInstances.{LevelCorrect}
 use Rattle.worlds.specs.Rows.{Row, rowsAfter}
 use Rattle.worlds.proofs.Declared.{AllCovered}
 use Rattle.worlds.proofs.Depth.{Depths}
@@ -65,6 +66,8 @@ pub record Standing (file : List ℕ) (fs : List Field) (s : State) (rs : List R
   pub apart : shortestFieldBytes * length fs ≤ s .bytes + shortestPayloadBytes * length (s .ended)
   pub origins : Origins fs s
   pub good : Good s
+  -- no definition is 4 with parameters at 0: lawful instances stay lawful (paper 02, L6)
+  pub level-correct : LevelCorrect s
   pub within : Within s
   pub fresh : Fresh s
   pub paths : Paths s
