@@ -38,7 +38,8 @@ use Rattle.rules.specs.Judge.{Cause, causes, firstCause, judge}
 use Rattle.rules.specs.State.{Module, State, noDefinition, templatesOf}
 use Rattle.standing.proofs.Adding.{stands-defined}
 use Rattle.standing.proofs.Advancing.{room}
-use Rattle.standing.proofs.Forms.{card-kept, codes-kept, params-kept}
+use Rattle.laws.proofs.CardsKept.{card-kept, params-kept}
+use Rattle.standing.proofs.Forms.{codes-kept}
 use Rattle.standing.proofs.Growth.{grows-add}
 use Rattle.standing.specs.Shown.{ownerShift}
 use Rattle.standing.specs.Chained.{Chained}

@@ -1,20 +1,20 @@
 -- The card of a new own definition is the level of its body by the cards before it; so its form shows it.
 use borrow.Author.Tests.{ltb-false, ltb-true}
 use mathlib.Core.Bool.{Bool, false, true}
-use mathlib.Core.List.{List, [], _++_, _∷_, append-nil, map}
+use mathlib.Core.List.{List, [], _++_, _∷_, append-nil}
 use mathlib.Core.Path.{_∙_, _≡_, ap, refl, subst, sym}
 use Prim.Native.Nat.{ℕ, _+_, _≤_, _<_}
 use native.Mathlib.Nat.{zero-add}
 use native.Mathlib.Omega.{arith}
 use lib.Dec.{ltb}
-use lib.ListN.{getD, length, length-append, length-map}
-use lib.Seq.{getD-at}
+use lib.ListN.{getD, length, length-append}
 use Rattle.limits.specs.Limits.{maxDefinitions}
-use Rattle.theory.specs.Expand.{Definition, Template, cards, own, summariesFrom, summaryOf, templateOf, templatesFrom}
+use Rattle.theory.specs.Expand.{own}
 use Rattle.theory.specs.Lists.{All}
-use Rattle.theory.specs.Term.{Term, byCards, level, longWay}
+use Rattle.theory.specs.Term.{Term}
 use Rattle.theory.specs.Level.{IsLevel}
-use Rattle.rules.specs.State.{Added, State, cardLevel, levelOf, meanings, paramsOf}
+use Rattle.laws.proofs.CardsKept.{card-own}
+use Rattle.rules.specs.State.{Added, State, cardLevel, levelOf, paramsOf}
 use Rattle.forms.specs.Forms.{formAt, levelAt, stored}
 use Rattle.forms.proofs.Tables.{load-other, stored-length}
 use Rattle.levels.proofs.Numbered.{numbers-at}
@@ -24,37 +24,8 @@ use Rattle.text_levels.proofs.OwnWorld.{Shows}
 use Rattle.standing.specs.Standing.{itselves}
 use Rattle.standing.proofs.Forms.{declaration-form, definition-form}
 
-summaries-append : (ts : List Template) (ss : List (List ℕ → ℕ)) (ds es : List Definition)
-    → summariesFrom longWay ts ss (ds ++ es) ≡ summariesFrom longWay (templatesFrom ts ds) (summariesFrom longWay ts ss ds) es
-summaries-append ts ss [] es = refl
-summaries-append ts ss (d ∷ ds) es = summaries-append (ts ++ (templateOf ts d ∷ [])) (ss ++ (summaryOf longWay ts ss d ∷ [])) ds es
-
-summaries-length : (ts : List Template) (ss : List (List ℕ → ℕ)) (ds : List Definition) → length (summariesFrom longWay ts ss ds) ≡ length ss + length ds
-summaries-length ts ss [] = omega arith
-summaries-length ts ss (d ∷ ds) =
-    summaries-length (ts ++ (templateOf ts d ∷ [])) (ss ++ (summaryOf longWay ts ss d ∷ [])) ds
-    ∙ rw (length-append ss (summaryOf longWay ts ss d ∷ [])) (omega arith)
-
--- the card of the last definition, an own one
-card-new : (ds : List Definition) (n : ℕ) (t : Term) (us : List ℕ) (g : ℕ) → length ds ≡ g → cards (ds ++ (own n t ∷ [])) g us ≡ level (byCards (cards ds)) us t
-card-new ds n t us g e =
-    let ss = summariesFrom longWay [] [] ds in
-    ap (λ (l : List (List ℕ → ℕ)). getD l g (λ vs. longWay .unknown) us) (summaries-append [] [] ds (own n t ∷ []))
-    ∙ ap (λ (f : List ℕ → ℕ). f us)
-    (getD-at ss (summaryOf longWay (templatesFrom [] ds) ss (own n t)) [] (λ vs. longWay .unknown) g (summaries-length [] [] ds ∙ zero-add (length ds) ∙ e))
-
-map-more : {A B : Type 0} (f : A → B) (xs ys : List A) → map f (xs ++ ys) ≡ map f xs ++ map f ys
-map-more f [] ys = refl
-map-more f (x ∷ xs) ys = ap (_∷_ (f x)) (map-more f xs ys)
-
 -- a state with one own definition more
 module _ (s s′ : State) (d : Added) (n : ℕ) (t : Term) (added : s′ .definitions ≡ s .definitions ++ (d ∷ [])) (is : d .meaning ≡ own n t) (few : length (s .definitions) < maxDefinitions) where
-  new-level : (g : ℕ) (us : List ℕ) → length (s .definitions) ≡ g → cardLevel s′ g us ≡ levelOf s us t
-  new-level g us e =
-      ap (λ (ds : List Definition). cards ds g us)
-      (ap (map (λ (d : Added). d .meaning)) added ∙ map-more (λ (d : Added). d .meaning) (s .definitions) (d ∷ []) ∙ ap (λ (y : Definition). meanings s ++ (y ∷ [])) is)
-      ∙ card-new (meanings s) n t us g (length-map (s .definitions) (λ (d : Added). d .meaning) ∙ e)
-
   -- the table with its form at its number
   module _ (words words′ : List ℕ) (form : ℕ) (size : length words ≡ tableWords) (kept : words′ ≡ stored words (length (s .definitions)) form)
       (there : formAt words′ (length (s .definitions)) ≡ form) where
@@ -84,6 +55,6 @@ module _ (s s′ : State) (d : Added) (n : ℕ) (t : Term) (added : s′ .defini
             let h : length (s .definitions) ≤ g = ltb-false g (length (s .definitions)) k in
             let m : length (s′ .definitions) ≡ length (s .definitions) + 1 = ap length added ∙ length-append (s .definitions) (d ∷ []) in
             let i : length (s .definitions) ≡ g = omega arith in
-            let n : getD itselves g 0 ≡ g = sym (numbers-at 0 maxDefinitions g (omega arith)) ∙ zero-add g in
-            ap (λ (h : ℕ). levelAt (formAt words′ h) us) (n ∙ sym i) ∙ ap (λ (f : ℕ). levelAt f us) there
-            ∙ gives us (e ∙ ap (paramsOf s′) (sym i)) a ∙ sym (new-level g us i)
+            let same : getD itselves g 0 ≡ g = sym (numbers-at 0 maxDefinitions g (omega arith)) ∙ zero-add g in
+            ap (λ (h : ℕ). levelAt (formAt words′ h) us) (same ∙ sym i) ∙ ap (λ (f : ℕ). levelAt f us) there
+            ∙ gives us (e ∙ ap (paramsOf s′) (sym i)) a ∙ sym (card-own s s′ d [] n t added is g i us)

@@ -1,5 +1,5 @@
 -- A card does not change by what is defined later; and what is defined has a card that is read over those before it.
-use mathlib.Core.List.{List, [], _++_, _∷_, append-assoc, append-nil, map}
+use mathlib.Core.List.{List, [], _++_, _∷_, append-assoc, append-nil, map, map-append}
 use mathlib.Core.Path.{_∙_, _≡_, ap, ap₂, fun-ext, refl, sym}
 use lib.ListN.{List·getD-append, getD, length, length-append, length-map}
 use lib.Seq.{getD-append-add}
@@ -50,14 +50,10 @@ cards-later ds es g l =
     ap (λ (ss : List (List ℕ → ℕ)). summaryIn longWay ss g) (summaries-append [] [] ds es ∙ e)
     ∙ List·getD-append (summariesFrom longWay [] [] ds) us (λ vs. longWay .unknown) g (omega (arith, summaries-length [] [] ds))
 
-pub map-more : {A B : Type 0} (f : A → B) (xs ys : List A) → map f (xs ++ ys) ≡ map f xs ++ map f ys
-map-more f [] ys = refl
-map-more f (x ∷ xs) ys = ap (_∷_ (f x)) (map-more f xs ys)
-
 -- a state with the definitions of another, and perhaps more
 module _ (s s′ : State) (ds : List Added) (added : s′ .definitions ≡ s .definitions ++ ds) where
   meanings-more : meanings s′ ≡ meanings s ++ map (λ (d : Added). d .meaning) ds
-  meanings-more = ap (map (λ (d : Added). d .meaning)) added ∙ map-more (λ (d : Added). d .meaning) (s .definitions) ds
+  meanings-more = ap (map (λ (d : Added). d .meaning)) added ∙ map-append (λ (d : Added). d .meaning) (s .definitions) ds
 
   pub definition-kept : (g : ℕ) → g < length (s .definitions) → definitionAt s′ g ≡ definitionAt s g
   definition-kept g l = ap (λ (l : List Added). getD l g noDefinition) added ∙ List·getD-append (s .definitions) ds noDefinition g l
@@ -89,11 +85,13 @@ module _ (s s′ : State) (ds : List Added) (added : s′ .definitions ≡ s .de
       ∙ ap (summaryIn longWay (summariesFrom longWay (templatesOf s) (summariesFrom longWay [] [] (meanings s)) (map (λ (d : Added). d .meaning) ds))) n
 
 -- The card of an own definition gives the level of its body, by the cards before it;
-pub card-own : (s s′ : State) (d : Added) (ds : List Added) (n : ℕ) (t : Term) → s′ .definitions ≡ s .definitions ++ (d ∷ ds) → d .meaning ≡ own n t → (us : List ℕ)
-    → cardLevel s′ (length (s .definitions) + 0) us ≡ levelOf s us t
-card-own s s′ d ds n t added is us =
+pub card-own : (s s′ : State) (d : Added) (ds : List Added) (n : ℕ) (t : Term) → s′ .definitions ≡ s .definitions ++ (d ∷ ds) → d .meaning ≡ own n t → (g : ℕ)
+    → length (s .definitions) ≡ g → (us : List ℕ) → cardLevel s′ g us ≡ levelOf s us t
+card-own s s′ d ds n t added is g number us =
     let cs = summariesFrom longWay [] [] (meanings s) in
-    ap (λ (f : List ℕ → ℕ). f us)
+    let here : g ≡ length (s .definitions) + 0 = omega (arith, number) in
+    ap (λ (g : ℕ). cardLevel s′ g us) here
+    ∙ ap (λ (f : List ℕ → ℕ). f us)
     (card-added s s′ (d ∷ ds) added 0 ∙ summary-first (templatesOf s) cs (d .meaning) (map (λ (d : Added). d .meaning) ds) ∙ ap (summaryOf longWay (templatesOf s) cs) is)
 
 -- with parameters at 0, what cause 12 looks at.
@@ -102,7 +100,7 @@ own-card s n p e =
     let s′ = add s (definition n p e) in
     let d = ownOne s n p e in
     ap (λ (a : Added). cardLevel s′ (length (s .definitions) + 0) (zeros (a .params))) (definition-added s s′ (d ∷ []) refl 0)
-    ∙ card-own s s′ d [] p (resolve s (here s) e) refl refl (zeros p)
+    ∙ card-own s s′ d [] p (resolve s (here s) e) refl refl (length (s .definitions) + 0) (omega arith) (zeros p)
 
 -- The card of what an instance brings gives the level of its template, over the definitions before the instance;
 module _ (s : State) (good : Good s) (n p m : ℕ) (ss : List Substitution)

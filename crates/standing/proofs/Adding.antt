@@ -8,20 +8,20 @@ use Prim.Native.Nat.{ℕ, suc, _+_, _*_, _≤_, _<_}
 use native.Mathlib.Decide.{decLt}
 use native.Mathlib.Nat.{zero-add}
 use native.Mathlib.Omega.{arith}
-use lib.ListN.{List·getD-append, getD, length, length-append, length-map, length-set, set}
+use lib.ListN.{List·getD-append, getD, length, length-append, length-set, set}
 use lib.Seq.{getD-at, getD-set-other, getD-set-same}
 use Rattle.limits.specs.Limits.{fileBytes, maxArity, maxDeclarations, maxDefinitions}
 use Rattle.limits.specs.Sizes.{codeCount, columnCount, maxFields}
-use Rattle.theory.specs.Expand.{Definition, cards, own, summariesFrom, summaryOf, templatesFrom}
+use Rattle.theory.specs.Expand.{own}
 use Rattle.theory.specs.Lists.{All, _∷?_}
-use Rattle.theory.specs.Term.{Kind, constant, declaredLevel, kindArity, longWay, variable}
+use Rattle.theory.specs.Term.{Kind, constant, declaredLevel, kindArity, variable}
 use Rattle.theory.specs.Level.{IsLevel}
 use Rattle.theory.proofs.Lists.{none-some, or-false}
 use Rattle.rules.specs.Add.{add}
-use Rattle.rules.specs.Expression.{Expression, overArity}
+use Rattle.rules.specs.Expression.{overArity}
 use Rattle.rules.specs.Field.{Field, assume, begin-module, declare-constant, declare-variable, definition, end-module, extends, instance, theorem}
 use Rattle.rules.specs.Judge.{judge, tooManyDeclarations}
-use Rattle.rules.specs.State.{Added, State, cardLevel, here, levelOf, meanings, paramsOf, resolve}
+use Rattle.rules.specs.State.{Added, State, cardLevel, paramsOf}
 use Rattle.laws.proofs.Causes.{clear-field}
 use Rattle.laws.proofs.Origins.{declaration}
 use Rattle.laws.proofs.Within.{within-add}
@@ -44,24 +44,10 @@ use Rattle.standing.specs.Chained.{Chained, Own, Through}
 use Rattle.standing.specs.Grows.{Grows, RowsKept}
 use Rattle.standing.specs.Standing.{AtField, DeclaredCodes, Standing, itselves}
 use Rattle.standing.proofs.Advancing.{bytes-more, declarations-more, declarations-same, few-declared, fields-counted, grows, none-counted, numbers-kept, room, stands-after}
-use Rattle.standing.proofs.Forms.{codes-kept, definition-form, map-more, summaries-append, summaries-length}
+use Rattle.standing.proofs.Forms.{codes-kept, definition-form}
 use Rattle.standing.proofs.Growth.{new-field, rows-stored}
 use Rattle.standing.proofs.Links.{all-chained, chained-kept, rows-counted}
 use Rattle.standing.proofs.Texts.{SameBelow}
-
--- The card of the last definition: what it is by the cards before it.
-pub card-last : (ds : List Definition) (d : Definition) → cards (ds ++ (d ∷ [])) (length ds) ≡ summaryOf longWay (templatesFrom [] ds) (summariesFrom longWay [] [] ds) d
-card-last ds d =
-    ap (λ (ss : List (List ℕ → ℕ)). getD ss (length ds) (λ vs. longWay .unknown)) (summaries-append [] [] ds (d ∷ []))
-    ∙ getD-at (summariesFrom longWay [] [] ds) (summaryOf longWay (templatesFrom [] ds) (summariesFrom longWay [] [] ds) d) [] (λ vs. longWay .unknown) (length ds)
-    (summaries-length [] [] ds ∙ zero-add (length ds))
-
--- An own definition's is the level of its body.
-pub own-card : (s : State) (n p : ℕ) (e : Expression) (us : List ℕ) → cardLevel (add s (definition n p e)) (length (s .definitions)) us ≡ levelOf s us (resolve s (here s) e)
-own-card s n p e us =
-    ap (λ (l : List Definition). cards l (length (s .definitions)) us) (map-more (λ (d : Added). d .meaning) (s .definitions) _)
-    ∙ ap (λ (g : ℕ). cards (meanings s ++ (own p (resolve s (here s) e) ∷ [])) g us) (sym (length-map (s .definitions) (λ (d : Added). d .meaning)))
-    ∙ ap (λ (f : List ℕ → ℕ). f us) (card-last (meanings s) (own p (resolve s (here s) e)))
 
 -- what a declaring field has
 some-counted : (s : State) (f : Field) (d : Kind × ℕ) → declaration f ≡ some d → add s f .declarations ≡ s .declarations + 1

@@ -34,7 +34,8 @@ use Rattle.standing.specs.Chained.{Own, Through}
 use Rattle.standing.specs.Grows.{RowsKept}
 use Rattle.standing.specs.Shown.{TextShown}
 use Rattle.standing.specs.Standing.{AtField, Standing}
-use Rattle.standing.proofs.Adding.{own-card, stands-defined}
+use Rattle.laws.proofs.CardsKept.{card-own}
+use Rattle.standing.proofs.Adding.{stands-defined}
 use Rattle.standing.proofs.Growth.{new-definition, rows-stored}
 use Rattle.standing.proofs.Links.{rows-counted}
 use Rattle.standing.proofs.Texts.{SameBelow}
@@ -93,7 +94,7 @@ module _ (file : List ℕ) (fs : List Field) (s : State) (rs : List Row) (v : St
       where
         form : (us : List ℕ) → length us ≡ paramsOf (add s f) g → All IsLevel us → levelAt (formAt words′ g) us ≡ cardLevel (add s f) g us
         form us l a =
-            new us (l ∙ ap (λ (d : Added). d .params) itself-there) a ∙ sym (own-card s n q e us)
+            new us (l ∙ ap (λ (d : Added). d .params) itself-there) a ∙ sym (card-own s (add s f) (ownOne s n q e) [] q (resolve s (here s) e) refl refl (length (s .definitions)) refl us)
             ∙ ap (λ (i : ℕ). cardLevel (add s f) i us) (sym (stands .holds .definitions))
 
         chain : Own v′ file refs′ (declarationsOf fs) (add s f) (add s f .bytes) (getD (rowsAfter s rs f) g noRow) g

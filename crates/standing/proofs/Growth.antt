@@ -1,7 +1,7 @@
 -- Every lawful field only adds to the arrays: what shows the state before it and the state after it shows that they grow.
 use borrow.Author.Tests.{ltb-false}
 use mathlib.Core.Bool.{Bool, cond, false, true}
-use mathlib.Core.List.{List, [], _++_, _∷_, append-assoc, append-nil, map}
+use mathlib.Core.List.{List, [], _++_, _∷_, append-assoc, append-nil, map, map-append}
 use mathlib.Core.Option.{none}
 use mathlib.Core.Path.{_∙_, _≡_, ap, ap₂, refl, subst, sym}
 use Prim.Native.Nat.{ℕ, _+_, _-_, _*_, _≤_, _<_}
@@ -88,10 +88,6 @@ codes-back names facts (o ∷ os) = ap₂ _∷_ (code-back names facts o) (codes
 pub codes-law : (v : Store) (c : Counts) (s : State) → Holds v c s → (m : ℕ) → m ≤ c .modules → codesOf v m ≡ map codeIn (moduleNo s m .context)
 codes-law v c s holds m l = sym (codes-back (v .names) (v .facts) (codesOf v m)) ∙ ap (λ (M : Module). map codeIn (M .context)) (holds .shown m l)
 
-map-more : (xs ys : Context) → map codeIn (xs ++ ys) ≡ map codeIn xs ++ map codeIn ys
-map-more [] ys = refl
-map-more (x ∷ xs) ys = ap (_∷_ (codeIn x)) (map-more xs ys)
-
 -- The ended modules are the same, the open one's context has more after it.
 pub grows-of : (v : Store) (c : Counts) (s : State) (v′ : Store) (c′ : Counts) (s′ : State) → Holds v c s → Holds v′ c′ s′ → RowsKept v c v′
     → c .modules ≤ c′ .modules → c .fields ≤ c′ .fields → c .definitions ≤ c′ .definitions → ((m : ℕ) → m < c .modules → moduleNo s′ m ≡ moduleNo s m) → (es : Context)
@@ -102,7 +98,7 @@ grows-of v c s v′ c′ s′ holds holds′ rows a b d same es last = record {
   contexts = λ m l. codes-law v′ c′ s′ holds′ m (omega arith) ∙ ap (λ (M : Module). map codeIn (M .context)) (same m l) ∙ sym (codes-law v c s holds m (omega arith));
   orders = λ m l. ap (λ (M : Module). M .definitions) (holds′ .shown m (omega arith) ∙ same m l ∙ sym (holds .shown m (omega arith)));
   more = map codeIn es;
-  open-context = codes-law v′ c′ s′ holds′ (c .modules) a ∙ ap (map codeIn) last ∙ map-more (moduleNo s (c .modules) .context) es
+  open-context = codes-law v′ c′ s′ holds′ (c .modules) a ∙ ap (map codeIn) last ∙ map-append codeIn (moduleNo s (c .modules) .context) es
       ∙ ap (λ (l : List ℕ). l ++ map codeIn es) (sym (codes-law v c s holds (c .modules) (omega arith)));
   fields = b;
   modules = a;
