@@ -17,7 +17,7 @@ same-length : tie.Need-same-length
 same-length c = search needs
 
 returns : tie.Need-returns
-returns c = search (needs, form-stored)
+returns c = form-stored _ _ _ _ _ _ _ _ (search needs) (search needs) (search needs)
 
 pub bring-form-spec : {M : Type 1} → statement M
 bring-form-spec =
