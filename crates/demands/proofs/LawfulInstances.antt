@@ -8,13 +8,13 @@ use Rattle.demands.proofs.Accepted.{check-accepted, fields-add}
 use Rattle.demands.proofs.Demand1.{demand-1}
 use Rattle.demands.specs.Archive.{checkLeaves, checkTells, stateOf}
 use Rattle.demands.specs.Demand1.{OneReply, full-result, refused-by-file, refused-by-query}
-use Rattle.demands.specs.LawfulInstances.{CardsStayLawful, LawfulInstances, cardAtZero, until21}
+use Rattle.demands.specs.LawfulInstances.{BroughtLawful, CardsStayLawful, LawfulInstances, cardAtZero, clearedNumbers}
 use Rattle.laws.proofs.Causes.{one-of}
 use Rattle.laws.proofs.Cause15.{same-checked}
 use Rattle.laws.proofs.Checks.{by-fields}
 use Rattle.laws.proofs.FileRefusals.{not-refusal, refusal-injective}
 use Rattle.laws.proofs.Invariant.{Good, good-adds, good-start}
-use Rattle.laws.proofs.LawfulBrought.{Cleared, both-all, brought-correct, brought-lawful, cleared}
+use Rattle.laws.proofs.LawfulBrought.{Cleared, brought-correct, brought-lawful, cleared}
 use Rattle.laws.proofs.LawfulFiles.{brought-is, brought-there, original-there, stays-lawful}
 use Rattle.laws.proofs.LevelCorrect.{file-level-correct, level-correct-adds, level-correct-start}
 use Rattle.laws.proofs.Memory.{card-says}
@@ -28,13 +28,13 @@ use Rattle.rules.specs.Field.{Field, FieldFits, Substitution, instance}
 use Rattle.rules.specs.Instance.{broughtOne, isConstant, source}
 use Rattle.rules.specs.Run.{Outcome, checked, memoryAfter, refusal, result}
 use Rattle.rules.specs.State.{State, definitionAt, paramsOf, start, zeros}
-use Rattle.theory.proofs.Lists.{replicate-all}
+use Rattle.theory.proofs.Lists.{both-all, replicate-all}
 use Rattle.theory.specs.Level.{IsLevel, incorrect}
 use Rattle.theory.specs.Lists.{All}
 
 -- AN INSTANCE after fields that obey
 module _ (before : List Field) (fit : All FieldFits before) (obey : EachObeys start before) (n p m : ℕ) (ss : List Substitution) (fits : FieldFits (instance n p m ss))
-    (free : All (Free (adds start before) (instance n p m ss)) until21) where
+    (free : All (Free (adds start before) (instance n p m ss)) clearedNumbers) where
   abbrev s : State
   s = adds start before
 
@@ -43,14 +43,13 @@ module _ (before : List Field) (fit : All FieldFits before) (obey : EachObeys st
 
   clear : Cleared s p m ss
   clear =
-      let at : (c : ℕ) → OneOf until21 c → Free s (instance n p m ss) c = λ c t. one-of (Free s (instance n p m ss)) until21 c free t in
+      let at : (c : ℕ) → OneOf clearedNumbers c → Free s (instance n p m ss) c = λ c t. one-of (Free s (instance n p m ss)) clearedNumbers c free t in
       cleared s n p m ss fits (at 9 tt) (at 10 tt) (at 14 tt) (at 21 tt)
 
-  every-instance : All (λ g. StaysLawful (isConstant s (source s m)) (levelAtZero s g) (broughtLevel s p (source s m) ss g) (highestSubstitute s p (source s m) ss)
-      × (broughtLevel s p (source s m) ss g < incorrect)) (source s m .definitions)
+  every-instance : All (BroughtLawful s p m ss) (source s m .definitions)
   every-instance =
       both-all (λ g. StaysLawful (isConstant s (source s m)) (levelAtZero s g) (broughtLevel s p (source s m) ss g) (highestSubstitute s p (source s m) ss))
-      (λ g. broughtLevel s p (source s m) ss g < incorrect) _ (λ g a b. (a, b)) (source s m .definitions) (brought-lawful s good p m ss clear)
+      (λ g. broughtLevel s p (source s m) ss g < incorrect) (BroughtLawful s p m ss) (λ g a b. (a, b)) (source s m .definitions) (brought-lawful s good p m ss clear)
       (brought-correct s good p m ss clear (level-correct-adds before start fit (obey-clears before start obey) good-start level-correct-start))
 
 -- THE CARDS of an accepted file

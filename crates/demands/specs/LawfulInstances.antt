@@ -15,7 +15,7 @@ use Rattle.laws.specs.LawfulInstances.{HasInstance, StaysLawful, atInstance, br
 use Rattle.rules.specs.Field.{Field, FieldFits, Substitution, instance}
 use Rattle.rules.specs.Instance.{broughtOne, isConstant, source}
 use Rattle.rules.specs.Run.{checked, refusal, result}
-use Rattle.rules.specs.State.{definitionAt, paramsOf, start, zeros}
+use Rattle.rules.specs.State.{State, definitionAt, paramsOf, start, zeros}
 use Rattle.theory.specs.Level.{incorrect}
 use Rattle.theory.specs.Lists.{All}
 
@@ -36,19 +36,21 @@ pub record CardsStayLawful (file left : List ℕ) (k : ℕ) : Type 0 where
   -- No definition is 4 with parameters at 0.
   pub level-correct : (g : ℕ) → g < k → cardAtZero file left g < incorrect
 
--- the numbers judged before 16: "clears 14 and 21" and all that is judged before
-abbrev pub until21 : List ℕ
-until21 = 4 ∷ 5 ∷ 7 ∷ 8 ∷ 9 ∷ 10 ∷ 11 ∷ 12 ∷ 14 ∷ 21 ∷ []
+-- "clears 14 and 21": of the causes that are judged before them it is enough that names are known and arguments rightly counted (9, 10), so that the substitutes are terms
+abbrev pub clearedNumbers : List ℕ
+clearedNumbers = 9 ∷ 10 ∷ 14 ∷ 21 ∷ []
+
+-- L6's sentences of definition g of module m, as an INSTANCE field with p parameters and the substitutions ss brings it after what led to s; and what is brought is not 4
+abbrev pub BroughtLawful : State → ℕ → ℕ → List Substitution → ℕ → Type 0
+BroughtLawful s p m ss g =
+    let M = source s m in
+    StaysLawful (isConstant s M) (levelAtZero s g) (broughtLevel s p M ss g) (highestSubstitute s p M ss) × (broughtLevel s p M ss g < incorrect)
 
 -- LAWFUL INSTANCES
 pub record LawfulInstances : Type 0 where
-  -- "every brought definition of an instance that clears 14 and 21", whether 16 then holds or not: the field stands after fields that obey; g is a definition of the
-  -- module, by its number. What is brought is not 4.
+  -- "every brought definition of an instance that clears 14 and 21", whatever else is said of the field (16, say): it stands after fields that obey
   pub every-instance : (before : List Field) → All FieldFits before → EachObeys start before → (n p m : ℕ) (ss : List Substitution) → FieldFits (instance n p m ss)
-      → All (Free (adds start before) (instance n p m ss)) until21
-      → All (λ g. StaysLawful (isConstant (adds start before) (source (adds start before) m)) (levelAtZero (adds start before) g)
-      (broughtLevel (adds start before) p (source (adds start before) m) ss g) (highestSubstitute (adds start before) p (source (adds start before) m) ss)
-      × (broughtLevel (adds start before) p (source (adds start before) m) ss g < incorrect)) (source (adds start before) m .definitions)
+      → All (Free (adds start before) (instance n p m ss)) clearedNumbers → All (BroughtLawful (adds start before) p m ss) (source (adds start before) m .definitions)
   -- so of the cards of every accepted file
   pub every-card : (file lent : List ℕ) (k : ℕ) → checkTells file lent ≡ result k → CardsStayLawful file (checkLeaves file lent) k
   -- "Hence cause 15 cannot arise any more": with 15 in its old place every file has the same verdict, cause and place and all that it adds.

@@ -5,14 +5,14 @@ use mathlib.Core.List.{List}
 use mathlib.Core.Path.{_≡_}
 use lib.ListN.{length}
 use Prim.Native.Nat.{_+_, _≤_, ℕ}
-use Rattle.laws.proofs.Invariant.{Good, substitute-formed}
+use Rattle.laws.proofs.Invariant.{Good, expressions-read, substitute-formed}
 use Rattle.limits.specs.Limits.{maxArity, maxDefinitions}
-use Rattle.rules.specs.Expression.{expression, overArity}
+use Rattle.rules.specs.Expression.{overArity}
 use Rattle.rules.specs.Field.{FieldFits, Substitution, instance}
 use Rattle.rules.specs.Instance.{source, substitute}
 use Rattle.rules.specs.Judge.{tooManyDefinitions}
 use Rattle.rules.specs.State.{State, paramsOf, templatesOf}
-use Rattle.theory.proofs.Lists.{map-all, or-false}
+use Rattle.theory.proofs.Lists.{or-false}
 use Rattle.theory.specs.Expand.{aritiesOf}
 use Rattle.theory.specs.Lists.{any}
 use Rattle.theory.specs.Term.{Kind, WellFormed, kindArity}
@@ -38,4 +38,4 @@ module _ (s : State) (n p m : ℕ) (ss : List Substitution) (cleared : Cleared s
   pub formed : Good s → FieldFits (instance n p m ss) → (k : Kind) (x : ℕ) → WellFormed (aritiesOf (templatesOf s)) (p + kindArity k) 0 (substitute s p (source s m) ss k x)
   formed good fits =
       substitute-formed s (good .sound) (good .current .0) p (source s m) ss
-      (map-all _ (λ (y : Substitution). expression .Fits (y .1)) (λ y f. f .1 .0) ss (fits .0 .0 .1 .1 .1 .1)) (cleared .known) (cleared .counted)
+      (expressions-read n p m ss fits) (cleared .known) (cleared .counted)

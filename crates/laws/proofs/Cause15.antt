@@ -10,8 +10,8 @@ use native.Mathlib.Omega.{arith}
 use Prim.Native.Nat.{_<_, suc, zero, ℕ}
 use Rattle.laws.proofs.Causes.{NoneHolds, causeOf, free-cause}
 use Rattle.laws.proofs.Fields.{field-back}
-use Rattle.laws.proofs.Invariant.{Good, good-add, good-start}
-use Rattle.laws.proofs.LawfulBrought.{brought-correct, expressions-read}
+use Rattle.laws.proofs.Invariant.{Good, expressions-read, good-add, good-start}
+use Rattle.laws.proofs.LawfulBrought.{brought-correct}
 use Rattle.laws.proofs.LevelCorrect.{level-correct-add, level-correct-start}
 use Rattle.laws.proofs.Obeying.{none-free}
 use Rattle.laws.specs.Cause15.{broughtIncorrect, causesWith15, checkedWith15, fromFieldWith15, insertBefore, judgeFileWith15, judgeFromWith15, nextOf15}

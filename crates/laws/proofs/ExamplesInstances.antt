@@ -4,10 +4,11 @@ use mathlib.Core.List.{List, [], _++_, _∷_, map}
 use mathlib.Core.Path.{_≡_, refl}
 use lib.ListN.{length}
 use Prim.Native.Nat.{ℕ}
+use Rattle.laws.specs.Cause15.{broughtIncorrect, causesWith15}
 use Rattle.laws.specs.Lawful.{adds}
 use Rattle.laws.specs.LawfulInstances.{HasInstance, atInstance, broughtNumber, highestSubstitute, instanced, levelAtZero, originalNumber}
 use Rattle.rules.proofs.Shapes.{_plus_, _′, box, file, moduleOf, num, op, op₁, outcome, par}
-use Rattle.rules.specs.Field.{Field, Substitution, begin-module, declare-constant, declare-variable, definition, end-module, instance}
+use Rattle.rules.specs.Field.{Field, Substitution, begin-module, declare-constant, declare-variable, definition, end-module, extends, instance}
 use Rattle.rules.specs.Instance.{isConstant}
 use Rattle.rules.specs.Run.{result}
 use Rattle.rules.specs.State.{start}
@@ -70,3 +71,36 @@ variable-accepted = refl
 pub never-higher : levels dropping ≡ (false, 0, (0, 1, 4, 0) ∷ (1, 2, 5, 2) ∷ (2, 3, 6, 3) ∷ (3, 3, 7, 0) ∷ [])
 unfolding row
 never-higher = refl
+
+-- NUMBERS, of a module that is not constant though it has no variable: 2 extends 1 (4 == 3, number 0) and has 6 == 3' (number 3) after 5 has come between (8 and 9, numbers 1 and 2).
+-- An instance without a name brings them in their order.
+abbrev extending : List Field
+extending =
+    moduleOf 1 (declare-constant 3 0 ∷ definition 4 0 (op 3) ∷ []) ++ moduleOf 5 (definition 8 0 (num 0) ∷ definition 9 0 (num 0) ∷ [])
+    ++ (begin-module 2 ∷ extends 1 [] ∷ definition 6 0 (op 3 ′) ∷ end-module ∷ []) ++ (begin-module 7 ∷ [])
+
+abbrev unnamed : List Field
+unnamed = extending ++ (instance 0 0 2 ((3, num 0) ∷ []) ∷ end-module ∷ [])
+
+abbrev plainly : HasInstance unnamed 0 0 2 ((3, num 0) ∷ [])
+plainly = record { before = extending; behind = end-module ∷ []; split = refl }
+
+pub unnamed-accepted : outcome (file unnamed) ≡ result 6
+unfolding row
+unnamed-accepted = refl
+
+pub numbers-in-order : levels plainly ≡ (false, 0, (0, 0, 4, 0) ∷ (3, 2, 5, 2) ∷ [])
+unfolding row
+numbers-in-order = refl
+
+-- CAUSE 15 in its old place; and an instance that it held of: x' and []x put for the names of 3 + 4. (So does 21.) Not of x' and x.
+pub fifteen-in-place : map (λ c. c .0) (causesWith15 start (instance 1 0 1 [])) ≡ 4 ∷ 5 ∷ 7 ∷ 8 ∷ 9 ∷ 10 ∷ 11 ∷ 12 ∷ 14 ∷ 21 ∷ 15 ∷ 16 ∷ []
+fifteen-in-place = refl
+
+abbrev sum : List Field
+sum = moduleOf 1 (declare-constant 3 0 ∷ declare-constant 4 0 ∷ definition 6 0 (op 3 plus op 4) ∷ []) ++ (begin-module 7 ∷ declare-variable 2 ∷ [])
+
+pub fifteen-held :
+    map (broughtIncorrect (adds start sum)) (instance 8 0 1 ((3, op 2 ′) ∷ (4, box (op 2)) ∷ []) ∷ instance 8 0 1 ((3, op 2 ′) ∷ (4, op 2) ∷ []) ∷ []) ≡ true ∷ false ∷ []
+unfolding row
+fifteen-held = refl

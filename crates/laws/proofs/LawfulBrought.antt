@@ -10,8 +10,8 @@ use lib.Dec.{T, eqb, eqb→eq, leb→le}
 use lib.ListN.{getD-replicate, length, length-replicate, replicate-append-replicate}
 use native.Mathlib.Omega.{arith}
 use Prim.Native.Nat.{_+_, _<_, _≤_, suc, zero, ℕ}
-use Rattle.laws.proofs.Causes.{free-cause}
-use Rattle.laws.proofs.Invariant.{Good, arity-known, same-kind, source-known, substitute-formed}
+use Rattle.laws.proofs.Causes.{free-cause, not-true}
+use Rattle.laws.proofs.Invariant.{Good, arity-known, expressions-read, same-kind, source-known, substitute-formed}
 use Rattle.laws.proofs.Obeying.{field-obeys}
 use Rattle.laws.proofs.Replacing.{card-template, cards-keep}
 use Rattle.laws.proofs.Sound.{all-formed}
@@ -26,11 +26,11 @@ use Rattle.theory.proofs.Demand3.{both-ways, expansion-formed, template-formed}
 use Rattle.theory.proofs.ExpandFirst.{eval-good}
 use Rattle.theory.proofs.Lattice.{below-zero, highest-lowest}
 use Rattle.theory.proofs.LawfulInstances.{lawful-instances}
-use Rattle.theory.proofs.Lists.{and-parts, any-false, every-all, find-has, map-all, never, not-false, or-left, or-right, replicate-all}
+use Rattle.theory.proofs.Lists.{and-parts, any-false, both-all, every-all, find-has, map-all, map-of, never, not-false, or-left, or-right, replicate-all}
 use Rattle.theory.specs.Expand.{aritiesOf, bodyIn, expand, itself, paramsFrom, templateOf}
 use Rattle.theory.specs.Lattice.{Below}
 use Rattle.theory.specs.LawfulInstances.{ConstantSubstitutes, Formed, substituted}
-use Rattle.theory.specs.Level.{IsLevel, bindsIn, highest, incorrect, mixes, plain}
+use Rattle.theory.specs.Level.{IsLevel, bindsIn, incorrect, mixes, plain, verdict}
 use Rattle.theory.specs.Lists.{All, any, every, find, mapOption, noneOf}
 use Rattle.theory.specs.Term.{Kind, Term, WellFormed, byCards, constant, declared, evals, kindArity, level, longWay, noDefinitions, variable}
 
@@ -86,24 +86,15 @@ lawful-zero : (n l : ℕ) → T (lawful false (constant n) l) → l ≡ 0
 lawful-zero zero l t = eqb→eq l 0 t
 lawful-zero (suc n) l t = eqb→eq l 0 t
 
+pub verdict-low : (l : ℕ) → IsLevel l → verdict l ≡ false → l < incorrect
+verdict-low l h e = let z : ¬ (incorrect ≡ l) = eqb-false incorrect l e in omega arith
+
 lawful-low : (k : Kind) (l : ℕ) → IsLevel l → T (lawful true k l) → l < incorrect
-lawful-low (constant zero) l h t = not-incorrect (eqb incorrect l) refl t
-  where
-    not-incorrect : (b : Bool) → eqb incorrect l ≡ b → T (not b) → l < incorrect
-    not-incorrect true e t = absurd t
-    not-incorrect false e t = let z : ¬ (incorrect ≡ l) = eqb-false incorrect l e in omega arith
+lawful-low (constant zero) l h t = verdict-low l h (not-true (verdict l) t)
 lawful-low (constant (suc n)) l h t = omega (arith, eqb→eq l 0 t)
 lawful-low variable l h t = omega (arith, leb→le l 1 t)
 
 -- Lists
-
-pub both-all : {A : Type 0} (P Q R : A → Type 0) → ((a : A) → P a → Q a → R a) → (xs : List A) → All P xs → All Q xs → All R xs
-both-all P Q R f [] a b = tt
-both-all P Q R f (x ∷ xs) a b = (f x (a .0) (b .0), both-all P Q R f xs (a .1) (b .1))
-
-map-of : {A B : Type 0} (P : B → Type 0) (f : A → B) (xs : List A) → All (λ x. P (f x)) xs → All P (map f xs)
-map-of P f [] a = tt
-map-of P f (x ∷ xs) a = (a .0, map-of P f xs (a .1))
 
 -- each value is among the values
 among : {A : Type 0} (f : A → ℕ) (xs : List A) (ls : List ℕ) → ((l : ℕ) → T (any (eqb l) (map f xs)) → T (any (eqb l) ls)) → All (λ x. T (any (eqb (f x)) ls)) xs
@@ -128,9 +119,6 @@ pub record Cleared (s : State) (p m : ℕ) (ss : List Substitution) : Type 0 whe
   pub counted : instanceMiscounted s (source s m) ss ≡ false
   pub levels-lawful : unlawfulSubstitute s p (source s m) ss ≡ false
   pub not-mixed : mixedSubstitutes s p (source s m) ss ≡ false
-
-pub expressions-read : (n p m : ℕ) (ss : List Substitution) → FieldFits (instance n p m ss) → All (λ y. expression .Fits (y .1)) ss
-expressions-read n p m ss h = map-all _ (λ (y : Substitution). expression .Fits (y .1)) (λ y f. f .1 .0) ss (h .0 .0 .1 .1 .1 .1)
 
 pub cleared : (s : State) (n p m : ℕ) (ss : List Substitution) → FieldFits (instance n p m ss) → Free s (instance n p m ss) 9 → Free s (instance n p m ss) 10
     → Free s (instance n p m ss) 14 → Free s (instance n p m ss) 21 → Cleared s p m ss
@@ -253,11 +241,20 @@ module _ (s : State) (good : Good s) (p m : ℕ) (ss : List Substitution) (clear
       by-constancy : (b : Bool) → isConstant s M ≡ b → All (λ g. StaysLawful (isConstant s M) (levelAtZero s g) (broughtLevel s p M ss g) (highestSubstitute s p M ss)) (M .definitions)
       by-constancy true e =
           map-all (Bounded true) _
-          (λ g r. record { no-higher = λ q. never (sym e ∙ q); no-higher-than-substitutes = λ q. r .1 .0; three-never-two = λ q. never (sym e ∙ q) }) (M .definitions) (all-bounded true e)
+          (λ g r. record {
+            no-higher = λ q. never (sym e ∙ q);
+            no-higher-than-substitutes = λ q. r .1 .0;
+            substitute-lawful = λ q. lawful-instances .substitutes-lawful σ p levels (constant-substitutes e);
+            three-never-two = λ q. never (sym e ∙ q);
+          }) (M .definitions) (all-bounded true e)
       by-constancy false e =
           map-all (Bounded false) _
-          (λ g r. record { no-higher = λ q. r .1 .0; no-higher-than-substitutes = λ q. never (sym q ∙ e); three-never-two = λ q three two. r .1 .1 two three }) (M .definitions)
-          (all-bounded false e)
+          (λ g r. record {
+            no-higher = λ q. r .1 .0;
+            no-higher-than-substitutes = λ q. never (sym q ∙ e);
+            substitute-lawful = λ q. never (sym q ∙ e);
+            three-never-two = λ q three two. r .1 .1 two three;
+          }) (M .definitions) (all-bounded false e)
 
   -- and where no definition is 4, none that is brought is.
   pub brought-correct : LevelCorrect s → All (λ g. broughtLevel s p M ss g < incorrect) (M .definitions)

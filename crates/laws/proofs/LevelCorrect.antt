@@ -1,6 +1,4 @@
 -- In every state that lawful fields reach, no definition is 4 with parameters at 0: of a definition field it is cause 12 that sees to it, of an instance L6.
-use borrow.Author.Tests.{eqb-false}
-use mathlib.Core.Bool.{false}
 use mathlib.Core.List.{List, [], _++_, _∷_}
 use mathlib.Core.Option.{none}
 use mathlib.Core.Path.{_≡_, refl, subst, subst⁻¹}
@@ -12,7 +10,7 @@ use Rattle.laws.proofs.Accept.{Clears, accepted-fields}
 use Rattle.laws.proofs.CardsKept.{brought-card, level-kept, own-card}
 use Rattle.laws.proofs.Causes.{clear-field}
 use Rattle.laws.proofs.Invariant.{Good, good-add, good-start}
-use Rattle.laws.proofs.LawfulBrought.{brought-correct, cleared-field, substitutes-formed}
+use Rattle.laws.proofs.LawfulBrought.{brought-correct, cleared-field, substitutes-formed, verdict-low}
 use Rattle.laws.proofs.Replacing.{cards-keep}
 use Rattle.laws.specs.Lawful.{adds}
 use Rattle.laws.specs.LawfulInstances.{LevelCorrect, broughtLevel, levelAtZero}
@@ -25,12 +23,9 @@ use Rattle.rules.specs.Run.{judgeFile, result}
 use Rattle.rules.specs.State.{Added, State, cardLevel, here, levelOf, resolve, start, zeros}
 use Rattle.theory.proofs.ExpandFirst.{eval-good}
 use Rattle.theory.proofs.Lists.{at-all, replicate-all}
-use Rattle.theory.specs.Level.{IsLevel, incorrect, verdict}
+use Rattle.theory.specs.Level.{IsLevel, incorrect}
 use Rattle.theory.specs.Lists.{All}
 use Rattle.theory.specs.Term.{byCards}
-
-verdict-low : (l : ℕ) → IsLevel l → verdict l ≡ false → l < incorrect
-verdict-low l h e = let z : ¬ (incorrect ≡ l) = eqb-false incorrect l e in omega arith
 
 -- cards stay; what is looked at is those that are added
 correct-more : (s s′ : State) (ds : List Added) → s′ .definitions ≡ s .definitions ++ ds → LevelCorrect s

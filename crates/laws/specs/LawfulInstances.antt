@@ -35,6 +35,8 @@ pub record StaysLawful (constant : Bool) (own brought substitute : ℕ) : Type 0
   pub no-higher : constant ≡ false → brought ≤ own
   -- "or, if the module is constant, no higher than the highest substitute."
   pub no-higher-than-substitutes : constant ≡ true → brought ≤ substitute
+  -- (which is not 4: no substitute is, by 14, and they do not hold both a 2 and a 3, by 21)
+  pub substitute-lawful : constant ≡ true → substitute < incorrect
   -- "Outside constant modules a 3 never becomes a 2."
   pub three-never-two : constant ≡ false → own ≡ 3 → ¬ (brought ≡ 2)
 

@@ -9,7 +9,7 @@ use Rattle.rules.specs.Field.{Substitution}
 use Rattle.agree.specs.Parts.{SubstitutionsAt}
 use Rattle.fields.specs.Substitution.{nextSubstitution}
 use Rattle.fields.specs.declared.Parts.{Parts}
-use Rattle.fields.specs.declared.Parts.the-variants.{Extends, Definition, Instance, EndModule, Assume, Theorem, Cut, EndOfFile}
+use Rattle.fields.specs.declared.Parts.the-variants.{Extends, Definition, Instance, EndModule, Cut, EndOfFile}
 use Rattle.context.specs.Store.{store}
 use Rattle.context.specs.declared.Counts.{Counts}
 use Rattle.levels.specs.Tables.{tableWords}
@@ -34,9 +34,6 @@ module _ (file names facts contexts orders heads : List ℕ) (c : Counts) (p : P
   pub underway-roomy : (x : Parts) → Now x → Roomy names facts contexts orders heads c
   underway-roomy x (underway fs s rs f stands at) = roomy file fs s rs (store names facts contexts orders heads) c p refs words declared stands x f at
 
-  pub underway-refs : (x : Parts) → Now x → length refs ≡ fileBytes
-  underway-refs x (underway fs s rs f stands at) = stands .refs-size
-
   pub underway-words : (x : Parts) → Now x → length words ≡ tableWords
   underway-words x (underway fs s rs f stands at) = stands .words-size
 
@@ -46,12 +43,6 @@ module _ (file names facts contexts orders heads : List ℕ) (c : Counts) (p : P
   -- where the texts stand
   pub definition-inside : (n k at l : ℕ) → Now (Definition n k at l) → at + l ≤ fileBytes
   definition-inside n k at l (underway fs s rs f stands there) = let e = there .tells .1 .0 in omega (arith, there .inside, there .short)
-
-  pub assume-inside : (at l : ℕ) → Now (Assume at l) → at + l ≤ fileBytes
-  assume-inside at l (underway fs s rs f stands there) = let e = there .tells .1 .0 in omega (arith, there .inside, there .short)
-
-  pub theorem-inside : (at l : ℕ) → Now (Theorem at l) → at + l ≤ fileBytes
-  theorem-inside at l (underway fs s rs f stands there) = let e = there .tells .1 .0 in omega (arith, there .inside, there .short)
 
   pub instance-inside : (n k m i at : ℕ) → Now (Instance n k m i at) → at ≤ fileBytes
   instance-inside n k m i at (underway fs s rs f stands there) =

@@ -47,10 +47,6 @@ rows-stored v c v′ o name r new a b = record {
       (λ (i : ℕ) (m : i < columnCount) (e : columnCount * p + j ≡ columnCount * o + i). let q : p ≡ o = omega arith in new (subst (Known (c .fields) (c .definitions)) q k));
 }
 
--- and one after another.
-pub rows-then : (v : Store) (c : Counts) (v₁ v′ : Store) → RowsKept v c v₁ → RowsKept v₁ c v′ → RowsKept v c v′
-rows-then v c v₁ v′ a b = record { names = λ o k. b .names o k ∙ a .names o k; facts = λ o j k l. b .facts o j k l ∙ a .facts o j k l }
-
 -- the codes that a field gives are new
 pub new-field : (c : Counts) → Known (c .fields) (c .definitions) (fieldCode (c .fields)) → ⊥
 new-field c k = omega (arith, k .below)

@@ -8,4 +8,3 @@ pub mod Advancing
 pub mod Plain
 pub mod Asking
 pub mod Adding
-pub mod Defining
