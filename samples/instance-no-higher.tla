@@ -1,6 +1,6 @@
-(* An instance of a module with variables: with parameters at 0 no level rises, and a 3 stays a 3. *)
-(* Test puts a fixed depth for the reading, to try the display on deck; At takes the depth as a    *)
-(* parameter.                                                                                      *)
+(* An instance of a module with variables: with parameters at 0 no level rises, and a 3 never *)
+(* becomes a 2. Test puts a fixed depth for the reading, to try the display on deck; At takes *)
+(* the depth as a parameter.                                                                  *)
 
 ---- MODULE Depth ----
 CONSTANT limit

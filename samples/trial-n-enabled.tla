@@ -1,5 +1,5 @@
 (* Module N of paper 01 with its action under ENABLED: D has level 3, and may be instanced whatever *)
-(* is put for K.                                                                                      *)
+(* of level 0 is put for K.                                                                         *)
 
 ---- MODULE N ----
 CONSTANT K(_, _)

@@ -76,7 +76,7 @@ fn wrong_rules_are_found_by_the_second_opinion() {
         );
         assert!(found.shrunk_what.starts_with("not lawful"), "{found}");
         assert!(size < 90, "{lawful:?}: {size} bytes\n{found}");
-        // The file written out breaks by these rules and by no others.
+        // The file written out breaks by these rules and not by the papers'.
         let broken = |rules| staying_lawful_by(rules, &found.shrunk.file, 1_000).broken;
         assert!(!broken(lawful).is_empty());
         assert!(broken(PAPERS).is_empty());

@@ -223,3 +223,20 @@ fn of_other(own: u8, brought: u8) -> Vec<Breach> {
 fn four(brought: u8) -> impl Iterator<Item = Breach> {
     (brought == 4).then_some(Breach::Four).into_iter()
 }
+
+#[cfg(test)]
+mod tests {
+    use super::*;
+
+    /// Above the substitutes is by the order in which neither of 2 and 3 is below the other.
+    #[test]
+    fn bounds_of_a_constant_module() {
+        let above = |highest, brought| Breach::AboveSubstitutes { highest, brought };
+        assert_eq!(of_constant(&[1, 3], 2), [above(3, 2)]);
+        assert_eq!(of_constant(&[2], 3), [above(2, 3)]);
+        assert_eq!(of_constant(&[], 1), [above(0, 1)]);
+        assert_eq!(of_constant(&[3], 1), []);
+        assert_eq!(of_constant(&[1, 2], 2), []);
+        assert_eq!(of_constant(&[], 0), []);
+    }
+}

@@ -221,7 +221,7 @@ mod tests {
     use super::*;
     use crate::json::Refused;
 
-    /// A refusal with a number that is no cause's, 15 among them, is told as one.
+    /// A refusal with a number that is no cause's, 15 among them, is told as such.
     #[test]
     fn numbers_that_are_no_causes() {
         let module = [1, 0, 2, 0, 1, 7, 0, 0];

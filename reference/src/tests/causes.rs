@@ -599,6 +599,16 @@ fn cause_14() {
     refused(vec![k()], vec![(10, and(p(1), x()))]);
     refused(vec![k()], vec![(10, prime(p(1)))]);
     lawful(vec![k()], vec![(10, and(p(1), p(0)))], 0);
+    // A module that is not constant only by what it extends, or brings.
+    for parts in [[extends(&[3]), c()], [c(), instance(0, 0, 3, &[])]] {
+        let fields = [
+            vec![module(3), def(12, 0, prime(lit(0))), end(), module(1)],
+            parts.to_vec(),
+            vec![end(), module(2), variable(50)],
+            vec![instance(9, 1, 1, &[(10, x())]), end()],
+        ];
+        expect(vec![(fields.concat(), 14, 9)]);
+    }
     // A later 4 is cause 12 all the same.
     let (fields, at) = case(vec![c(), v()], vec![(10, x()), (11, wrong())]);
     expect(vec![(fields, 12, at)]);

@@ -160,8 +160,8 @@ fn instance_operators() -> Vec<(&'static str, Vec<u8>)> {
 }
 
 /// Every planned fault, both sides of every limit, every kind of substitute, every way of a 2 and a 3 to
-/// meet, everything that becomes of a level where it is brought, cut fields, the table of codes and those just outside it, accepted files of several shapes, and
-/// the samples.
+/// meet, everything that becomes of a level where it is brought, cut fields, the table of codes and those
+/// just outside it, accepted files of several shapes, and the samples.
 fn vectors(samples: &Path) -> io::Result<Vec<Vector>> {
     let mut all = Vec::new();
     let mut add = |label: String, file, whole| all.push(Vector { label, file, whole });
