@@ -1,7 +1,7 @@
 //! A second opinion that lawful instances stay lawful, so that cause 15 (a brought definition is 4 with
-//! parameters at 0) never held: "with parameters at 0, every brought definition of an instance that clears
-//! 14 and 21 has a level no higher than in its own module, or, if the module is constant, no higher than the
-//! highest substitute. Outside constant modules a 3 never becomes a 2."
+//! parameters at 0) never holds where 14 and 21 do not: "with parameters at 0, every brought definition of
+//! an instance that clears 14 and 21 has a level no higher than in its own module, or, if the module is
+//! constant, no higher than the highest substitute. Outside constant modules a 3 never becomes a 2."
 //!
 //! Every definition is expanded in full and levelled the long way, in its own module and where it is
 //! brought; so is every substitute, and whether a module is constant is found so too. No card is read.

@@ -415,7 +415,7 @@ fn files_of_all_kinds(look: &mut dyn FnMut(&[u8])) {
     }
 }
 
-/// Cause 15 never held. By each of the wrong rules below something breaks.
+/// Cause 15 never holds where 14 and 21 do not. By each of the wrong rules below something breaks.
 #[test]
 fn lawful_instances_stay_lawful() {
     let mut seen = Seen::default();
