@@ -149,7 +149,7 @@ module _ (s : State) (good : Good s) (n p m : ℕ) (ss : List Substitution)
         ∙ ap (λ (A : List Template). summaryIn longWay (summariesFrom longWay A cs (map (λ (d : Added). d .meaning) (broughtAll s n p M ss))) (length cs + i)) (sym (append-nil (templatesOf s)))
         ∙ brought-summaries (M .definitions) [] cs i (source-known (length (s .definitions)) s m (good .ended) .1) there)
 
-    -- with parameters at 0, what cause 15 looked at.
+    -- with parameters at 0
     pub brought-card : levelAtZero (add s (instance n p m ss)) (length (s .definitions) + i) ≡ broughtLevel s p M ss (getD (M .definitions) i 0)
     brought-card =
         ap (λ (a : Added). cardLevel (add s (instance n p m ss)) (length (s .definitions) + i) (zeros (a .params))) brought-definition

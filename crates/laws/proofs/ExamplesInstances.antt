@@ -29,7 +29,7 @@ levels {fs = fs} {p = p} {ss = ss} h =
 abbrev constants : List Field
 constants = moduleOf 1 (declare-constant 2 0 ∷ definition 3 0 (op 2 plus op 2) ∷ []) ++ (begin-module 4 ∷ declare-variable 2 ∷ [])
 
--- "no higher than the highest substitute": in instance 5 2' is put for 2, and 0 becomes 2; in instance 6 2 stands for itself, and 0 becomes 1.
+-- "no higher than the highest substitute": in instance 5 2' is put for 2, and level 0 becomes 2; in instance 6 2 stands for itself, and level 0 becomes 1.
 abbrev risen : List Field
 risen = constants ++ (instance 5 0 1 ((2, op 2 ′) ∷ []) ∷ instance 6 0 1 [] ∷ end-module ∷ [])
 
@@ -52,7 +52,7 @@ unfolding row
 implicit-counts = refl
 
 -- A MODULE THAT IS NOT CONSTANT, 1: variable 2, operator 3(_), 4 == 2, 5 == 2', 6 == []2, 7 == 3([]2). Instance 9 of it has a parameter, which is put for 2; for 3 is
--- put an operator that drops its argument. 1 becomes 0; 2 and 3 stay, or 3 becomes 0.
+-- put an operator that drops its argument. Level 1 becomes 0; levels 2 and 3 stay, or 3 becomes 0.
 abbrev variables : List Field
 variables =
     moduleOf 1 (declare-variable 2 ∷ declare-constant 3 1 ∷ definition 4 0 (op 2) ∷ definition 5 0 (op 2 ′) ∷ definition 6 0 (box (op 2)) ∷ definition 7 0 (op₁ 3 (box (op 2))) ∷ [])
@@ -93,7 +93,7 @@ pub numbers-in-order : levels plainly ≡ (false, 0, (0, 0, 4, 0) ∷ (3, 2, 5, 
 unfolding row
 numbers-in-order = refl
 
--- CAUSE 15 in its old place; and an instance that it held of: x' and []x put for the names of 3 + 4. (So does 21.) Not of x' and x.
+-- CAUSE 15 in its old place; and an instance that it held of, as 21 does: 2' and []2 put for 3 and 4 in 3 + 4. Of 2' and 2 it did not hold.
 pub fifteen-in-place : map (λ c. c .0) (causesWith15 start (instance 1 0 1 [])) ≡ 4 ∷ 5 ∷ 7 ∷ 8 ∷ 9 ∷ 10 ∷ 11 ∷ 12 ∷ 14 ∷ 21 ∷ 15 ∷ 16 ∷ []
 fifteen-in-place = refl
 

@@ -1,4 +1,4 @@
--- CAUSE 15, which is not used any more (paper 02, L6): what it was, and the check with it "in its old place", after 21 and before 16.
+-- CAUSE 15, which is not used any more (paper 02, L6): what it was, and the check with it in its old place, after 21 and before 16.
 use mathlib.Core.Bool.{Bool, _||_, cond, false}
 use mathlib.Core.List.{List, [], _∷_}
 use lib.Dec.{eqb, ltb}
