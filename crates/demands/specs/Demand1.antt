@@ -13,7 +13,7 @@ use lib.ListN.{getD, length}
 use Prim.Native.Nat.{_%_, _*_, _/_, ℕ}
 use Rattle.demands.specs.Archive.{Enough, alikeLeaves, alikeTells, bodyLeaves, bodyTells, checkLeaves, checkTells, expandLeaves, expandTells, expandWrites, levelLeaves, levelTells, stateOf}
 use Rattle.demands.specs.Replies.{AlikeReplied, BodyReplied, CheckReplied, ExpansionReplied, ExpansionWritten, LevelReplied}
-use Rattle.laws.specs.Cards.{entryAt}
+use Rattle.laws.specs.Cards.{cardByte}
 use Rattle.laws.specs.Lawful.{Obeys}
 use Rattle.laws.specs.Queries.{AlikeRefused, BodyRefused, ExpansionRefused, LevelRefused, expressionNumbers}
 use Rattle.laws.specs.Refused.{FileRefused, OneOf, fileNumbers}
@@ -31,11 +31,11 @@ pub data OneReply {A : Type 0} (file lent : List ℕ) (Full : A → Type 0) (num
   refused-by-query : (k : ℕ) → checkTells file lent ≡ result k → (c p : ℕ) → reply ≡ refusal c p → OneOf numbers c → Enough lent → (o : Obeys file)
       → Own (stateOf file) (length (o .fields)) c p → OneReply file lent Full numbers Own reply
 
--- THE CARD MEMORY after a call, byte by byte, by what a check of the file tells. Accepted with k definitions: "A card is 125 bytes at 125 times the definition's
+-- THE CARD MEMORY after a call, byte by byte, by what a check of the file tells. Accepted with k definitions: "16 bytes at 16 times the definition's
 -- number"; "Acceptance changes no byte past the last card". Refused: 1 leaves all as it was; "refusals 2 to 16 of the file, and any
--- cause of the file added later, set the first 32,000 bytes to 0; bytes beyond stay". "A query's own refusals, like its replies, leave an accepted file's cards filled."
+-- cause of the file added later" zero 4,096 bytes ("zeroed to there"); "bytes beyond stay". "A query's own refusals, like its replies, leave an accepted file's cards filled."
 abbrev pub byteLeft : List ℕ → List ℕ → Outcome ℕ → ℕ → ℕ
-byteLeft file lent (result k) i = cond (ltb i (cardBytes * k)) (entryAt (stateOf file) (i / cardBytes) (i % cardBytes)) (getD lent i 0)
+byteLeft file lent (result k) i = cond (ltb i (cardBytes * k)) (cardByte (stateOf file) (i / cardBytes) (i % cardBytes)) (getD lent i 0)
 byteLeft file lent (refusal c p) i = cond (eqb c 1) (getD lent i 0) (cond (ltb i cardMemoryBytes) 0 (getD lent i 0))
 
 pub record MemoryLeft (file lent left : List ℕ) : Type 0 where

@@ -11,7 +11,7 @@ use lib.ListN.{getD, length}
 use Prim.Native.Nat.{_*_, _+_, _<_, ℕ}
 use Rattle.demands.specs.Archive.{Enough, alikeTells, bodyTells, checkLeaves, checkTells, expandTells, expandWrites, levelTells, stateOf}
 use Rattle.demands.specs.Replies.{AlikeReplied, BodyReplied, ExpansionReplied, ExpansionWritten, LevelReplied, QueryCards, QueryRefused}
-use Rattle.laws.specs.Cards.{cardPart, entryAt}
+use Rattle.laws.specs.Cards.{cardByte, cardPart}
 use Rattle.laws.specs.Lawful.{Obeys, adds}
 use Rattle.laws.specs.Modules.{Ended, SameFields}
 use Rattle.laws.specs.Queries.{AlikeRefused, BodyRefused, ExpansionRefused, LevelRefused}
@@ -35,7 +35,7 @@ pub record Demand2 : Type 0 where
   pub what-fields-add : (file : List ℕ) (o : Obeys file) → stateOf file ≡ adds start (o .fields)
   -- "Every level card": each byte of each card, after whatever call;
   pub every-card-byte : (file lent : List ℕ) (k : ℕ) → checkTells file lent ≡ result k → (g e : ℕ) → g < k → e < cardBytes
-      → getD (checkLeaves file lent) (cardBytes * g + e) 0 ≡ entryAt (stateOf file) g e
+      → getD (checkLeaves file lent) (cardBytes * g + e) 0 ≡ cardByte (stateOf file) g e
   pub query-cards : (file lent : List ℕ) → QueryCards file lent
   -- "count": "A check replies with the number of definitions";
   pub counted : (file lent : List ℕ) (k : ℕ) → checkTells file lent ≡ result k → k ≡ length (stateOf file .definitions)

@@ -13,3 +13,5 @@ pub mod Demand2
 pub mod Demand3
 -- Lawful instances stay lawful
 pub mod LawfulInstances
+-- Short cards are exact
+pub mod ShortCards
