@@ -35,6 +35,7 @@ pub record ExactCards : Type 0 where
       → (cardFor n t ≡ cardFor m u) ↔ ((n ≡ m) × ((v : List ℕ) → Vector n v → level longWay v t ≡ level longWay v u))
   -- A mask takes 0 to 4; or 0 to 3; or not 3, not 2, neither of them; or nothing,
   pub masks : (n i : ℕ) → i < n → (t : Term) → T (any (eqb (maskOf n (levelsAt t) i)) (31 ∷ 15 ∷ 7 ∷ 11 ∷ 3 ∷ 0 ∷ []))
-  -- which is where the level is 4 with all at 0; and a parameter that is taken at 4 counts nowhere.
+  -- which is where the level is 4 with all at 0; elsewhere a parameter is taken at 4 just where it counts nowhere.
   pub empty-mask : (n i : ℕ) → i < n → (t : Term) → (maskOf n (levelsAt t) i ≡ 0) ↔ (level longWay (replicate n 0) t ≡ incorrect)
-  pub full-mask : (n i : ℕ) → i < n → (t : Term) → (maskOf n (levelsAt t) i ≡ 31) ↔ ((v : List ℕ) → Vector n v → level longWay v t ≡ level longWay (set v i 0) t)
+  pub full-mask : (n i : ℕ) → i < n → (t : Term)
+      → (maskOf n (levelsAt t) i ≡ 31) ↔ (¬ (level longWay (replicate n 0) t ≡ incorrect) × ((v : List ℕ) → Vector n v → level longWay v t ≡ level longWay (set v i 0) t))
