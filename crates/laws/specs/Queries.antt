@@ -36,7 +36,7 @@ abbrev pub expressionNumbers : List ℕ
 expressionNumbers = 3 ∷ 5 ∷ 9 ∷ 10 ∷ []
 
 -- Why the expression of a query, read at the end of module M over n parameters, is refused with c. "A query's expression is judged like a THEOREM field
--- with its parameters, without cause 12 and of any length; a given level above 4 is 3, a fourth parameter 5."
+-- with its parameters, without cause 12 and of any length; a given level above 4 is 3", a ninth parameter 5.
 pub data ExpressionRefused (s : State) (M : Module) (n : ℕ) (levels bytes : List ℕ) (c : ℕ) : Type 0 where
   unreadable : expression .read bytes ≡ none → c ≡ 3 → ExpressionRefused s M n levels bytes c
   by-cause : (e : Expression) → expression .read bytes ≡ some e → JudgedFirst expressionNumbers (queryCauses s M levels n e) c → ExpressionRefused s M n levels bytes c
@@ -55,7 +55,7 @@ pub data TermRefused (s : State) (fields m n : ℕ) (levels bytes : List ℕ) (c
   no-module : NoModule s m → c ≡ 17 → p ≡ 0 → TermRefused s fields m n levels bytes c p
   at-fault : (M : Module) → moduleNamed s m ≡ some M → ExpressionRefused s M n levels bytes c → p ≡ fields → TermRefused s fields m n levels bytes c p
 
--- LEVEL: "over 0 to 3 parameters, a level from 0 to 4 being given for each"
+-- LEVEL: over 0 to 8 parameters, "a level from 0 to 4 being given for each"
 abbrev pub LevelRefused : ℕ → List ℕ → List ℕ → State → ℕ → ℕ → ℕ → Type 0
 LevelRefused m levels bytes s fields c p = TermRefused s fields m (length levels) levels bytes c p
 
