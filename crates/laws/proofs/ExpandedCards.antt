@@ -5,30 +5,31 @@ use lib.ListN.{length}
 use Prim.Native.Nat.{_<_, ℕ}
 use Rattle.laws.proofs.Invariant.{Good}
 use Rattle.laws.proofs.Memory.{card-in-memory, few-params}
-use Rattle.laws.proofs.Replacing.{card-template}
+use Rattle.laws.proofs.Replacing.{card-template, expansion-of-name}
 use Rattle.laws.proofs.Within.{Within}
-use Rattle.laws.specs.Cards.{cardIn}
+use Rattle.laws.specs.Cards.{cardIn, nameAtParams}
 use Rattle.rules.specs.Run.{card, memoryAfter, result}
-use Rattle.rules.specs.State.{State, cardLevel, paramsOf, templatesOf}
+use Rattle.rules.specs.State.{State, cardLevel, expansionOf, paramsOf}
 use Rattle.theory.proofs.Cards.{card-same}
 use Rattle.theory.specs.Card.{readCard}
-use Rattle.theory.specs.ExactCards.{ExactCards, Vector, cardFor, levelsAt}
-use Rattle.theory.specs.Expand.{bodyIn}
+use Rattle.theory.specs.ExactCards.{ExactCards, cardFor, levelsAt}
 use Rattle.theory.specs.Level.{IsLevel}
 use Rattle.theory.specs.Lists.{All}
+use Rattle.theory.specs.Term.{level, longWay}
 
-module _ (s : State) (good : Good s) where
-  pub card-body : (g : ℕ) → g < length (s .definitions) → card s g ≡ cardFor (paramsOf s g) (bodyIn (templatesOf s) g)
-  card-body g l = card-same (paramsOf s g) (cardLevel s g) (levelsAt (bodyIn (templatesOf s) g)) (λ ρ n a. card-template s good g ρ l n a)
+module _ (s : State) (good : Good s) (g : ℕ) (there : g < length (s .definitions)) where
+  pub card-level : (ρ : List ℕ) → length ρ ≡ paramsOf s g → All IsLevel ρ → cardLevel s g ρ ≡ level longWay ρ (expansionOf s (nameAtParams s g))
+  card-level ρ n a = card-template s good g ρ there n a ∙ ap (level longWay ρ) (sym (expansion-of-name s good g there))
 
-  module _ (within : Within s) (X : ExactCards) where
-    pub card-holds : (g : ℕ) (ρ : List ℕ) → g < length (s .definitions) → Vector (paramsOf s g) ρ → readCard (card s g) ρ ≡ cardLevel s g ρ
-    card-holds g ρ l v =
-        ap (λ (c : List ℕ). readCard c ρ) (card-body g l) ∙ X .exact (paramsOf s g) (few-params s within g l) (bodyIn (templatesOf s) g) ρ v
-        ∙ sym (card-template s good g ρ l (v .0) (v .1))
+  pub card-body : card s g ≡ cardFor (paramsOf s g) (expansionOf s (nameAtParams s g))
+  card-body = card-same (paramsOf s g) (cardLevel s g) (levelsAt (expansionOf s (nameAtParams s g))) card-level
 
-    -- "what its card says at the levels of its arguments", read off the bytes in memory
-    pub card-says : (memory : List ℕ) (g : ℕ) (ρ : List ℕ) → g < length (s .definitions) → length ρ ≡ paramsOf s g → All IsLevel ρ
-        → cardIn (memoryAfter (result s) memory) g ρ ≡ cardLevel s g ρ
-    card-says memory g ρ l n a =
-        ap (λ (c : List ℕ). readCard c ρ) (card-in-memory s within memory g l) ∙ card-holds g ρ l (n, a)
+  module _ (X : ExactCards) (within : Within s) (ρ : List ℕ) (n : length ρ ≡ paramsOf s g) (a : All IsLevel ρ) where
+    pub card-holds : readCard (card s g) ρ ≡ cardLevel s g ρ
+    card-holds =
+        ap (λ (c : List ℕ). readCard c ρ) card-body ∙ X .exact (paramsOf s g) (few-params s within g there) (expansionOf s (nameAtParams s g)) ρ (n, a)
+        ∙ sym (card-level ρ n a)
+
+    -- "what its card says at the levels of its arguments", read off its bytes in memory
+    pub card-says : (memory : List ℕ) → cardIn (memoryAfter (result s) memory) g ρ ≡ cardLevel s g ρ
+    card-says memory = ap (λ (c : List ℕ). readCard c ρ) (card-in-memory s within memory g there) ∙ card-holds
