@@ -6,5 +6,7 @@ pub mod Rows
 pub mod Tables
 pub mod Leading
 pub mod Contracts
-pub mod Filling
 pub mod Reading
+pub mod Probes
+pub mod Finding
+pub mod Laying

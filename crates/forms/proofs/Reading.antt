@@ -51,7 +51,7 @@ pub at-start : (w : ℕ) (v : List ℕ) → levelOf (bitOr (w % 8) (gives (w / 8
 unfolding levelAt bitsAt
 at-start w v = start w (gives (w / 8) v) (gives-whole (w / 8) v)
 
-gives-zeros : (w n : ℕ) → gives w (replicate n 0) ≡ 0
+pub gives-zeros : (w n : ℕ) → gives w (replicate n 0) ≡ 0
 gives-zeros w zero = refl
 gives-zeros w (suc n) = ap₂ bitOr (under-zero w) (gives-zeros (w / 8) n)
 

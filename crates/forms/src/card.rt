@@ -1,102 +1,111 @@
-// The level that a form gives at given levels, and a definition's card.
-use limits::Limits;
+// A definition's card, found from its form.
 ghost use mathlib.Core.Path.{_≡_};
-ghost use Prim.Native.Nat.{ℕ, _+_, _^_, _<_, _≤_};
-ghost use lib.ListN.{getD, length, replicate, take};
+ghost use Prim.Native.Nat.{_+_, _^_, _<_, _≤_};
+ghost use lib.ListN.{getD, length};
 ghost use lib.Seq.{paste};
-ghost use Rattle.limits.specs.Limits.{cardBytes, levelCount, maxArity};
-ghost use Rattle.theory.specs.Card.{cardOf, levelsOf};
-ghost use Rattle.forms.specs.Labels.{Digit, coded, levelOf};
+ghost use Rattle.limits.specs.Limits.{cardBytes, maxArity};
+ghost use Rattle.theory.specs.Card.{cardOf, pairBit};
+ghost use Rattle.forms.specs.Cards.{Paired, laidOut};
 ghost use Rattle.forms.specs.Forms.{levelAt};
+use crate::levels::level_at_zero;
+use crate::probing::clashes;
+use crate::probing::mask_of;
+use crate::probing::weighs;
+use crate::probing::with_bit;
+use limits::Limits;
 
-// The bits of a level.
-fn bits_of(l: u8) -> u8
-    ensures { λ r. ⌜ Digit (coded l) r ⌝ }
-{
-    if l < 2 {
-        return l;
-    }
-    if l == 2 {
-        return 3;
-    }
-    if l == 3 {
-        return 5;
-    }
-    7
+// "A card becomes 16 bytes": what they hold.
+pub struct Card {
+    pub params: u8,
+    pub base: u8,
+    pub weights: u8,
+    pub masks: [u8; Limits::ARITY],
+    pub pairs: u32,
 }
 
-// The level of three bits.
-fn level_of(b: u8) -> u8
-    requires { ⌜ b < 8 ⌝ }
-    ensures { λ r. ⌜ r ≡ levelOf b ⌝ }
+// "Pair bit j(j − 1)/2 + i, for i below j and counting from 0"
+fn pair_bit(i: usize, j: usize) -> u32
+    requires { ⌜ (i < j) × (j < maxArity) ⌝ }
+    ensures { λ r. ⌜ (r ≡ pairBit i j) × (r < 28) ⌝ }
 {
-    if b < 2 { b } else { b / 2 + 1 }
+    (j * (j - 1) / 2 + i) as u32
 }
 
-// The level with all parameters at 0.
-pub fn level_at_zero(form: u64) -> u8
-    ensures { λ r. ⌜ ((n : ℕ) → r ≡ levelAt form (replicate n 0)) ⌝ }
+// The pair bits of parameter j with each before it, beside those of the parameters before j.
+fn add_pairs(form: u64, j: usize, before: u32) -> u32
+    requires { ⌜ (j < maxArity) × (before < 2 ^ pairBit 0 j) ⌝ }
+    ensures { λ r. ⌜ Paired (levelAt form) j before r ⌝ }
 {
-    level_of((form % 8) as u8)
-}
-
-// The level with the parameters at v.
-pub fn level(form: u64, v: &[u8]) -> u8
-    ensures { λ r. ⌜ r ≡ levelAt form (now (v .entry)) ⌝ }
-{
-    let mut b = (form % 8) as u8;
-    let mut left = form / 8;
+    let mut pairs = before;
     let mut i: usize = 0;
-    while i < v.len() {
-        let x = bits_of(v[i]);
-        let y = crate::level_under((left % 8) as u8, x);
-        b = b | y;
-        left = left / 8;
+    while i < j {
+        let b = clashes(form, i, j);
+        pairs = with_bit(pairs, pair_bit(i, j), b);
         i += 1;
     }
-    level_of(b)
+    pairs
 }
 
-// "with n parameters 5ⁿ entries are used"
-pub fn power(n: usize) -> usize
+// The card of a form over n parameters.
+pub fn card_of(form: u64, n: usize) -> Card
     requires { ⌜ n ≤ maxArity ⌝ }
-    ensures { λ r. ⌜ r ≡ levelCount ^ n ⌝ }
+    ensures { λ r. ⌜ laidOut r ≡ cardOf n (levelAt form) ⌝ }
 {
-    let mut r: usize = 1;
+    let mut masks = [0u8; Limits::ARITY];
+    let mut weights: u32 = 0;
+    let mut pairs: u32 = 0;
     let mut i: usize = 0;
     while i < n {
-        r = r * Limits::LEVELS;
+        masks[i] = mask_of(form, i);
+        let b = weighs(form, i);
+        weights = with_bit(weights, i as u32, b);
+        pairs = add_pairs(form, i, pairs);
         i += 1;
     }
-    r
+    Card {
+        params: n as u8,
+        base: level_at_zero(form),
+        weights: weights as u8,
+        masks,
+        pairs,
+    }
 }
 
-// The parameters' levels at entry k of a card.
-fn vector(n: usize, k: usize) -> [u8; Limits::ARITY]
-    requires { ⌜ n ≤ maxArity ⌝ }
-    ensures { λ r. ⌜ take n r ≡ levelsOf n k ⌝ }
+// Byte k of a card.
+pub fn byte_of(card: Card, k: usize) -> u8
+    requires { ⌜ k < cardBytes ⌝ }
+    ensures { λ r. ⌜ r ≡ getD (laidOut card) k 0 ⌝ }
 {
-    let mut r = [0u8; Limits::ARITY];
-    let mut left = k;
-    let mut i: usize = 0;
-    while i < n {
-        r[i] = (left % Limits::LEVELS) as u8;
-        left = left / Limits::LEVELS;
-        i += 1;
+    if k == 0 {
+        return card.params;
     }
-    r
+    if k == 1 {
+        return card.base;
+    }
+    if k == 2 {
+        return card.weights;
+    }
+    if k < 11 {
+        let masks = card.masks;
+        return masks[k - 3];
+    }
+    if k < 15 {
+        let shift = ((14 - k) * 8) as u32;
+        return ((card.pairs >> shift) % 256) as u8;
+    }
+    0
 }
 
-// Entry k of the card of a form over n parameters, size entries of which are used.
-fn entry(f: u64, n: usize, size: usize, k: usize) -> u8
-    requires { ⌜ (n ≤ maxArity) × (size ≡ levelCount ^ n) ⌝ }
-    ensures { λ r. ⌜ r ≡ getD (cardOf n (levelAt f)) k 0 ⌝ }
+// Stores a card from place at of out.
+fn put(card: Card, out: &mut [u8], at: usize)
+    requires { ⌜ at + cardBytes ≤ length (now out) ⌝ }
+    ensures { λ r. ⌜ now (out .exit) ≡ paste (now (out .entry)) at (laidOut card) cardBytes ⌝ }
 {
-    if size <= k {
-        return 0;
+    let mut k: usize = 0;
+    while k < Limits::CARD_BYTES {
+        out[at + k] = byte_of(card, k);
+        k += 1;
     }
-    let v = vector(n, k);
-    level(f, &v[..n])
 }
 
 // Stores the card of a form over n parameters from place at of out.
@@ -104,11 +113,5 @@ pub fn fill(f: u64, n: usize, out: &mut [u8], at: usize)
     requires { ⌜ (n ≤ maxArity) × (at + cardBytes ≤ length (now out)) ⌝ }
     ensures { λ r. ⌜ now (out .exit) ≡ paste (now (out .entry)) at (cardOf n (levelAt f)) cardBytes ⌝ }
 {
-    let size = power(n);
-    let mut k: usize = 0;
-    while k < Limits::CARD_BYTES {
-        let x = entry(f, n, size, k);
-        out[at + k] = x;
-        k += 1;
-    }
+    put(card_of(f, n), out, at)
 }

@@ -1,6 +1,8 @@
 // Level forms: the level of an expression as a function of its parameters' levels, in one number: a base and a label for each of sixteen
 // parameters. What they mean is said in specs/.
 pub mod card;
+pub mod levels;
+mod probing;
 
 ghost use mathlib.Core.Path.{_≡_};
 ghost use Prim.Native.Nat.{_+_, _<_, _≤_};

@@ -2,10 +2,10 @@ use Prim.Native.Nat.{_-_}
 use lib.ListN.{length}
 use Rattle.forms.proofs.Reading.{Reads, reads-start, reads-turn, reads-end}
 use borrow.Author.Needs.{needs}
-use Rattle.forms.proofs.card.level.Statement.{statement}
-use Rattle.forms.proofs.card.level.Tie as tie
-use Rattle.forms.proofs.card.bits_of.Reads as bits-of-reads
-use Rattle.forms.proofs.card.level_of.Reads as level-of-reads
+use Rattle.forms.proofs.levels.level.Statement.{statement}
+use Rattle.forms.proofs.levels.level.Tie as tie
+use Rattle.forms.proofs.levels.bits_of.Reads as bits-of-reads
+use Rattle.forms.proofs.levels.level_of.Reads as level-of-reads
 use Rattle.forms.proofs.level_under.Reads as level-under-reads
 
 abbrev Inv-loop : tie.InvT-loop

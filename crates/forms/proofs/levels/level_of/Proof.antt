@@ -1,7 +1,7 @@
 use Rattle.forms.proofs.Reading.{level-low-bits, level-high-bits}
 use borrow.Author.Needs.{needs}
-use Rattle.forms.proofs.card.level_of.Statement.{statement}
-use Rattle.forms.proofs.card.level_of.Tie as tie
+use Rattle.forms.proofs.levels.level_of.Statement.{statement}
+use Rattle.forms.proofs.levels.level_of.Tie as tie
 
 add-result : tie.Need-add-result
 add-result c = search needs

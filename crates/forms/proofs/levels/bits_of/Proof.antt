@@ -1,7 +1,7 @@
 use Rattle.forms.proofs.Reading.{bits-low, bits-two, bits-three, bits-high}
 use borrow.Author.Needs.{needs}
-use Rattle.forms.proofs.card.bits_of.Statement.{statement}
-use Rattle.forms.proofs.card.bits_of.Tie as tie
+use Rattle.forms.proofs.levels.bits_of.Statement.{statement}
+use Rattle.forms.proofs.levels.bits_of.Tie as tie
 
 returns : tie.Need-returns
 returns c = search (needs, bits-low)

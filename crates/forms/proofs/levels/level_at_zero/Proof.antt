@@ -1,8 +1,8 @@
 use Rattle.forms.proofs.Reading.{at-zero}
 use borrow.Author.Needs.{needs}
-use Rattle.forms.proofs.card.level_at_zero.Statement.{statement}
-use Rattle.forms.proofs.card.level_at_zero.Tie as tie
-use Rattle.forms.proofs.card.level_of.Reads as level-of-reads
+use Rattle.forms.proofs.levels.level_at_zero.Statement.{statement}
+use Rattle.forms.proofs.levels.level_at_zero.Tie as tie
+use Rattle.forms.proofs.levels.level_of.Reads as level-of-reads
 
 cast-level-of : tie.Need-cast-level-of
 cast-level-of c = search needs
