@@ -15,7 +15,7 @@ use crate::reading::limit_cause;
 use crate::walk::judge;
 use context::Counts;
 use context::lookup::find_module;
-use forms::card::level;
+use forms::levels::level;
 use resolve::Looked;
 
 // The reply: a level, 0 to 4; or the cause of a refusal and its place.

@@ -10,7 +10,7 @@ ghost use Rattle.judge_instance.specs.Constancy.{constantCodes, isVariab
 use context::Kinds;
 use context::lists::number_at;
 use context::lookup::is_declared;
-use forms::card::level_at_zero;
+use forms::levels::level_at_zero;
 use limits::Limits;
 
 // Whether a code is a variable's.

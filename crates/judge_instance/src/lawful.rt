@@ -22,7 +22,7 @@ use context::lookup::has_named_instance;
 use context::lookup::is_declared;
 use entering::substitutes::Site;
 use entering::substitutes::substitute_form;
-use forms::card::level_at_zero;
+use forms::levels::level_at_zero;
 use levels::names::identity;
 use limits::Limits;
 

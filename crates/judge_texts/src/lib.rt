@@ -10,7 +10,7 @@ ghost use Rattle.levels.specs.Tables.{namesOf};
 ghost use Rattle.levels.specs.Walk.{TextForm};
 ghost use Rattle.standing.specs.Standing.{itselves};
 ghost use Rattle.judge_texts.specs.Texts.{Texted, textCause};
-use forms::card::level_at_zero;
+use forms::levels::level_at_zero;
 use levels::names::identity;
 use levels::text_form;
 use limits::Limits;
