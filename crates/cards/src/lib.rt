@@ -13,7 +13,7 @@ use forms::card::fill;
 use levels::names::form_at;
 use limits::Limits;
 
-// "set the first 32,000 bytes to 0; bytes beyond stay"
+// "The card memory .. is zeroed to there": its first 4,096 bytes; "bytes beyond stay".
 pub fn clear_cards(cards: &mut [u8])
     requires { ⌜ cardMemoryBytes ≤ length (now cards) ⌝ }
     ensures { λ r. ⌜ now (cards .exit) ≡ overwrite (replicate cardMemoryBytes 0) (now (cards .entry)) ⌝ }
