@@ -1,4 +1,4 @@
 pub mod Writing
-pub mod Levels
+pub mod Spelling
 pub mod Lines
 pub mod Listed

@@ -1,19 +1,17 @@
 -- The text of the arrays is the rules' listing of the state that they show.
 use borrow.Author.Tests.{le-ltb}
 use mathlib.Core.Bool.{Bool, cond}
-use mathlib.Core.List.{List, [], _++_, _∷_, append-assoc, append-nil, map}
+use mathlib.Core.List.{List, [], _++_, _∷_, append-assoc, append-nil}
 use mathlib.Core.Path.{_∙_, _≡_, ap, ap₂, refl, subst, sym}
-use Prim.Native.Nat.{ℕ, zero, suc, _+_, _^_, _≤_, _<_}
+use Prim.Native.Nat.{ℕ, zero, suc, _+_, _≤_, _<_}
 use native.Mathlib.Nat.{zero-add}
 use native.Mathlib.Omega.{arith}
 use lib.ListN.{getD, length}
-use Rattle.limits.specs.Limits.{levelCount, maxArity, maxDefinitions}
-use Rattle.theory.proofs.Cards.{levels-all, levels-length}
-use Rattle.theory.specs.Level.{IsLevel}
+use Rattle.limits.specs.Limits.{maxArity, maxDefinitions}
+use Rattle.theory.proofs.Cards.{card-same}
 use Rattle.theory.proofs.Lists.{at-all}
-use Rattle.theory.specs.Card.{levelsOf, usedEntries}
-use Rattle.theory.specs.Lists.{All, numbersFrom}
-use Rattle.rules.specs.Listing.{decimal, definitionLine, definitionLines, instanceName, line, listing}
+use Rattle.theory.specs.Card.{cardOf}
+use Rattle.rules.specs.Listing.{decimal, definitionLine, definitionLines, hexadecimal, instanceName, line, listing}
 use Rattle.rules.specs.Run.{result}
 use Rattle.rules.specs.State.{Added, State, cardLevel, definitionAt, noDefinition, paramsOf}
 use Rattle.laws.proofs.Within.{Within}
@@ -26,13 +24,7 @@ use Rattle.context.specs.Holds.{Holds}
 use Rattle.context.specs.Store.{Store, describedAs, kindAt, pathOf, store, viaAt}
 use Rattle.context.specs.declared.Counts.{Counts}
 use Rattle.standing.specs.Standing.{itselves}
-use Rattle.lines.specs.Text.{arityAt, digit, entries, lineAt, linesOf, textOf}
-
-used-same : (n i m : ℕ) (f g : List ℕ → ℕ) → ((ls : List ℕ) → length ls ≡ n → All IsLevel ls → f ls ≡ g ls)
-    → map (λ j. f (levelsOf n j)) (numbersFrom i m) ≡ map (λ j. g (levelsOf n j)) (numbersFrom i m)
-used-same n i zero f g h = refl
-used-same n i (suc m) f g h =
-    ap₂ (λ (a : ℕ) (l : List ℕ). a ∷ l) (h (levelsOf n i) (levels-length n i) (levels-all n i)) (used-same n (suc i) m f g h)
+use Rattle.lines.specs.Text.{arityAt, cardDigits, lineAt, linesOf, textOf}
 
 -- a path of one name at most
 path-name : (n : ℕ) → instanceName (pathOf n) ≡ n
@@ -67,13 +59,12 @@ module _ (names facts words : List ℕ) (s : State) (decls : Declarations)
       let at : g ≡ getD itselves g 0 = sym (zero-add g) ∙ numbers-at 0 maxDefinitions g (omega (arith, small .definitions)) in
       let named : getD names g 0 ≡ definitionAt s g .name = ap (λ (d : Added). d .name) told in
       let via : viaAt facts g ≡ instanceName (definitionAt s g .path) = sym (path-name (viaAt facts g)) ∙ ap (λ (d : Added). instanceName (d .path)) told in
-      let card : map digit (usedEntries (paramsOf s g) (levelAt (formAt words g))) ≡ map digit (usedEntries (paramsOf s g) (cardLevel s g)) =
-      ap (map digit)
-      (used-same (paramsOf s g) 0 (levelCount ^ paramsOf s g) (levelAt (formAt words g)) (cardLevel s g)
-      (λ us n a. ap (λ (j : ℕ). levelAt (formAt words j) us) at ∙ forms .definitions g us l n a)) in
-      ap₂ (λ (i n : ℕ). line (decimal g ∷ decimal i ∷ decimal n ∷ decimal (arityAt facts g) ∷ entries (arityAt facts g) (levelAt (formAt words g)) ∷ [])) via named
+      let card : cardDigits (paramsOf s g) (levelAt (formAt words g)) ≡ hexadecimal (cardOf (paramsOf s g) (cardLevel s g)) =
+      ap hexadecimal
+      (card-same (paramsOf s g) (levelAt (formAt words g)) (cardLevel s g) (λ us n a. ap (λ (j : ℕ). levelAt (formAt words j) us) at ∙ forms .definitions g us l n a)) in
+      ap₂ (λ (i n : ℕ). line (decimal g ∷ decimal i ∷ decimal n ∷ decimal (arityAt facts g) ∷ cardDigits (arityAt facts g) (levelAt (formAt words g)) ∷ [])) via named
       ∙ ap
-      (λ (n : ℕ). line (decimal g ∷ decimal (instanceName (definitionAt s g .path)) ∷ decimal (definitionAt s g .name) ∷ decimal n ∷ entries n (levelAt (formAt words g)) ∷ []))
+      (λ (n : ℕ). line (decimal g ∷ decimal (instanceName (definitionAt s g .path)) ∷ decimal (definitionAt s g .name) ∷ decimal n ∷ cardDigits n (levelAt (formAt words g)) ∷ []))
       same
       ∙ ap
       (λ (e : List ℕ). line (decimal g ∷ decimal (instanceName (definitionAt s g .path)) ∷ decimal (definitionAt s g .name) ∷ decimal (paramsOf s g) ∷ e ∷ []))

@@ -1,12 +1,12 @@
 -- The listing of what the arrays hold.
 use mathlib.Core.Bool.{cond}
-use mathlib.Core.List.{List, [], _∷_, _++_, map}
+use mathlib.Core.List.{List, [], _∷_, _++_}
 use Prim.Native.Nat.{ℕ, zero, suc, _+_, _*_}
 use lib.Dec.{ltb}
 use lib.ListN.{getD}
-use Rattle.limits.specs.Limits.{maxArity, maxDefinitions}
-use Rattle.theory.specs.Card.{usedEntries}
-use Rattle.rules.specs.Listing.{decimal, line}
+use Rattle.limits.specs.Limits.{cardBytes, maxArity, maxDefinitions}
+use Rattle.theory.specs.Card.{cardOf}
+use Rattle.rules.specs.Listing.{decimal, hexadecimal, line}
 use Rattle.forms.specs.Forms.{formAt, levelAt}
 use Rattle.context.specs.Store.{kindAt, viaAt}
 
@@ -14,22 +14,18 @@ use Rattle.context.specs.Store.{kindAt, viaAt}
 abbrev pub arityAt : List ℕ → ℕ → ℕ
 arityAt facts g = cond (ltb maxArity (kindAt facts g)) 0 (kindAt facts g)
 
--- a level as a digit
-abbrev pub digit : ℕ → ℕ
-digit l = 48 + l
-
--- the used entries of a form's card over n parameters
-abbrev pub entries : ℕ → (List ℕ → ℕ) → List ℕ
-entries n level = map digit (usedEntries n level)
+-- "the card's 32 lower-case hexadecimal digits"
+abbrev pub cardDigits : ℕ → (List ℕ → ℕ) → List ℕ
+cardDigits n level = hexadecimal (cardOf n level)
 
 -- a number and the byte after it
 abbrev pub number : ℕ → ℕ → List ℕ
 number k after = decimal k ++ (after ∷ [])
 
--- "number, instance name or 0, name, parameter count, used entries"
+-- "number, instance name or 0, name, parameter count", and the card
 unfoldable pub lineAt : List ℕ → List ℕ → List ℕ → ℕ → List ℕ
 lineAt names facts words g =
-    line (decimal g ∷ decimal (viaAt facts g) ∷ decimal (getD names g 0) ∷ decimal (arityAt facts g) ∷ entries (arityAt facts g) (levelAt (formAt words g)) ∷ [])
+    line (decimal g ∷ decimal (viaAt facts g) ∷ decimal (getD names g 0) ∷ decimal (arityAt facts g) ∷ cardDigits (arityAt facts g) (levelAt (formAt words g)) ∷ [])
 
 -- of the first n definitions
 abbrev pub linesOf : List ℕ → List ℕ → List ℕ → ℕ → List ℕ
@@ -51,9 +47,9 @@ refusedWord = 114 ∷ 101 ∷ 102 ∷ 117 ∷ 115 ∷ 101 ∷ 100 ∷ 32 ∷ []
 abbrev pub refusalText : ℕ → ℕ → List ℕ
 refusalText c p = line ((114 ∷ 101 ∷ 102 ∷ 117 ∷ 115 ∷ 101 ∷ 100 ∷ []) ∷ decimal c ∷ decimal p ∷ [])
 
--- room for the longest line: four numbers of five digits, each with the byte after it, 125 entries and the line feed
+-- room for the longest line: four numbers of five digits, each with the byte after it, two digits for each byte of the card, and the line feed
 abbrev pub lineRoom : ℕ
-lineRoom = 150
+lineRoom = 4 * 6 + 2 * cardBytes + 1
 
 -- and for the longest text: the heading, and a line for each definition
 abbrev pub textRoom : ℕ

@@ -1,5 +1,5 @@
 // The listing as text in lent memory.
-mod entries;
+mod digits;
 mod listing;
 mod numbers;
 
@@ -11,7 +11,7 @@ pub struct Room;
 
 impl Room {
     // Room for the longest line and the longest text, as specs/Text.antt explains them.
-    pub const LINE: usize = 150;
+    pub const LINE: usize = 4 * 6 + 2 * Limits::CARD_BYTES + 1;
 
     pub const TEXT: usize = 9 + Room::LINE * Limits::DEFINITIONS;
 }

@@ -10,7 +10,7 @@ ghost use Rattle.context.specs.Store.{viaAt};
 ghost use Rattle.rules.specs.Run.{overwrite};
 ghost use Rattle.lines.specs.Text.{heading, lineAt, lineRoom, linesOf, number, refusalText, refusedWord, textOf, textRoom};
 ghost use Rattle.lines.specs.Writes.{Writes};
-use crate::entries::put_entries;
+use crate::digits::put_card;
 use crate::numbers::put_byte;
 use crate::numbers::put_number;
 use context::lists::number_at;
@@ -57,8 +57,8 @@ fn put_line(
     let f = form_at(words, g);
     let named = put_names(names, facts, g, out, at);
     let counted = put_number(out, named, k, SPACE);
-    let filled = put_entries(f, k, out, counted);
-    put_byte(out, filled, LINE_FEED)
+    let shown = put_card(f, k, out, counted);
+    put_byte(out, shown, LINE_FEED)
 }
 
 // The first line of n definitions.
