@@ -9,8 +9,9 @@ use lib.ListN.{getD, length, length-append, length-replicate, replicate}
 use native.Mathlib.Omega.{arith}
 use Prim.Native.Nat.{_+_, suc, ℕ}
 use Rattle.theory.proofs.ExpandFirst.{eval-good, evals-good, length-evals}
-use Rattle.theory.proofs.Finite.{at-levels, at-list, atLevels, atLists}
+use Rattle.theory.proofs.Finite.{at-level, at-levels, at-list, atLevels, atLists}
 use Rattle.theory.proofs.Fusion.{no-scope}
+use Rattle.theory.proofs.Labels.{act, labelOf}
 use Rattle.theory.proofs.Lattice.{below-incorrect, below-zero, higher-of, higher-swap, highest-append, highest-cons}
 use Rattle.theory.proofs.Levels.{bound-level, highest-level, levels-kept}
 use Rattle.theory.proofs.Lists.{and-parts, append-all, every-all, find-has, getD-all, map-all, none-some, replicate-all}
@@ -42,11 +43,12 @@ record RowBelow (p : Option Mask) (r : Row) : Type 0 where
   law : (ls : List ℕ) → All IsLevel ls → length ls ≡ length (r .takes)
       → behind p (rowLevel (some r) ls) ≡ highest (behind p (resultLevel (r .result) []) ∷ behinds p (r .takes) ls)
 
--- p keeps 0, 4 and joins, and every row obeys the law below it
+-- p keeps 0, 4 and joins, is told by its label, and every row obeys the law below it
 pub record PlaceKeeps (p : Option Mask) : Type 0 where
   nought : behind p 0 ≡ 0
   four : behind p 4 ≡ 4
   pub joins : (k l : ℕ) → IsLevel k → IsLevel l → behind p (higher k l) ≡ higher (behind p k) (behind p l)
+  pub labelled : (l : ℕ) → IsLevel l → behind p l ≡ act (labelOf p) l
   rows : All (RowBelow p) table
 
 -- as a computed test over the table and the levels
@@ -59,20 +61,25 @@ rowTest p r = leb (resultLevel (r .result) []) 4 && atLists (length (r .takes)) 
 abbrev joinsAt : Option Mask → ℕ → ℕ → Bool
 joinsAt p k l = eqb (behind p (higher k l)) (higher (behind p k) (behind p l))
 
+abbrev labelledAt : Option Mask → ℕ → Bool
+labelledAt p l = eqb (behind p l) (act (labelOf p) l)
+
 test : Option Mask → Bool
-test p = eqb (behind p 0) 0 && (eqb (behind p 4) 4 && ((atLevels λ k. atLevels λ l. joinsAt p k l) && every (rowTest p) table))
+test p = eqb (behind p 0) 0 && (eqb (behind p 4) 4 && ((atLevels λ k. atLevels λ l. joinsAt p k l) && (atLevels (labelledAt p) && every (rowTest p) table)))
 
 place-keeps : (p : Option Mask) → T (test p) → PlaceKeeps p
 unfolding test
 place-keeps p t =
     let a = and-parts (eqb (behind p 0) 0) _ t in
     let b = and-parts (eqb (behind p 4) 4) _ (a .1) in
-    let c = and-parts (atLevels λ k. atLevels λ l. joinsAt p k l) (every (rowTest p) table) (b .1) in
+    let c = and-parts (atLevels λ k. atLevels λ l. joinsAt p k l) _ (b .1) in
+    let d = and-parts (atLevels (labelledAt p)) (every (rowTest p) table) (c .1) in
     record {
       nought = eqb→eq (behind p 0) 0 (a .0);
       four = eqb→eq (behind p 4) 4 (b .0);
       joins = λ k l h i. eqb→eq (behind p (higher k l)) (higher (behind p k) (behind p l)) (at-levels (joinsAt p) (c .0) k l h i);
-      rows = map-all (λ r. T (rowTest p r)) (RowBelow p) row-below table (every-all (rowTest p) table (c .1));
+      labelled = λ l h. eqb→eq (behind p l) (act (labelOf p) l) (at-level (labelledAt p) (d .0) l h);
+      rows = map-all (λ r. T (rowTest p r)) (RowBelow p) row-below table (every-all (rowTest p) table (d .1));
     }
   where
     row-below : (r : Row) → T (rowTest p r) → RowBelow p r
@@ -186,7 +193,7 @@ own-level v β (defined g) n a b = lit≤ tt
 own-level v β (builtin c) n a b = code-own (row c) n (found (RowBelow none) (none-keeps .rows) c)
 own-level v β (leaf (literal l)) n a b = lit≤ tt
 
-binder-level : (h : Head) → IsLevel (variableLevel (binder h))
+pub binder-level : (h : Head) → IsLevel (variableLevel (binder h))
 binder-level (param i) = lit≤ tt
 binder-level (bound j) = lit≤ tt
 binder-level (declared k x) = lit≤ tt
