@@ -127,7 +127,7 @@ found P a c r e = find-has P (has c) table r a e .0
 from-zero : (l : ℕ) → IsLevel l → higher 0 l ≡ l
 from-zero l h = higher-of 0 l (lit≤ tt) h (below-zero l)
 
-to-zero : (l : ℕ) → IsLevel l → higher l 0 ≡ l
+pub to-zero : (l : ℕ) → IsLevel l → higher l 0 ≡ l
 to-zero l h = higher-swap l 0 h (lit≤ tt) ∙ from-zero l h
 
 from-four : (l : ℕ) → IsLevel l → higher 4 l ≡ 4
