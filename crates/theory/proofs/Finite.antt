@@ -2,11 +2,11 @@
 use mathlib.Core.Bool.{Bool, _&&_, _||_, false, not, true}
 use mathlib.Core.List.{List, [], _∷_}
 use mathlib.Core.Path.{_≡_}
-use lib.Dec.{T}
+use lib.Dec.{T, lit≤}
 use lib.ListN.{length}
 use native.Mathlib.Omega.{arith}
 use Prim.Native.Nat.{suc, zero, ℕ}
-use Rattle.theory.proofs.Lists.{and-parts}
+use Rattle.theory.proofs.Lists.{and-both, and-parts}
 use Rattle.theory.specs.Level.{IsLevel}
 use Rattle.theory.specs.Lists.{All}
 
@@ -21,6 +21,11 @@ at-level p t (suc (suc zero)) h = and-parts (p 2) _ (and-parts (p 1) _ (and-part
 at-level p t (suc (suc (suc zero))) h = and-parts (p 3) _ (and-parts (p 2) _ (and-parts (p 1) _ (and-parts (p 0) _ t .1) .1) .1) .0
 at-level p t (suc (suc (suc (suc zero)))) h = and-parts (p 3) _ (and-parts (p 2) _ (and-parts (p 1) _ (and-parts (p 0) _ t .1) .1) .1) .1
 at-level p t (suc (suc (suc (suc (suc l))))) h = absurd (omega arith)
+
+pub levels-at : (p : ℕ → Bool) → ((l : ℕ) → IsLevel l → T (p l)) → T (atLevels p)
+levels-at p t =
+    and-both (p 0) _ (t 0 (lit≤ tt))
+    (and-both (p 1) _ (t 1 (lit≤ tt)) (and-both (p 2) _ (t 2 (lit≤ tt)) (and-both (p 3) (p 4) (t 3 (lit≤ tt)) (t 4 (lit≤ tt)))))
 
 pub at-levels : (p : ℕ → ℕ → Bool) → T (atLevels λ l. atLevels λ m. p l m) → (l m : ℕ) → IsLevel l → IsLevel m → T (p l m)
 at-levels p t l m h i = at-level (p l) (at-level (λ l. atLevels λ m. p l m) t l h) m i

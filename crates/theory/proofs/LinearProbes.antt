@@ -47,6 +47,12 @@ module _ (n : ℕ) (f : List ℕ → ℕ) (lin : Linear n (λ v m. Below (f v) m
   pub linear-level : (v : List ℕ) → Vector n v → IsLevel (f v)
   linear-level v q = lin .bounds v q 4 .1 (below-incorrect b (lin .base-level), λ i h. below-incorrect _ (added-level n v q (w i) i)) .0
 
+  -- levels that add the same give the same
+  pub same-added : (u v : List ℕ) → Vector n u → Vector n v → ((i : ℕ) → i < n → act (w i) (getD u i 0) ≡ act (w i) (getD v i 0)) → f u ≡ f v
+  same-added u v p q e =
+      lattice .antisymmetric (f u) (f v) (lin .bounds u p (f v) .1 (above v q .0, λ i h. subst⁻¹ (λ (x : ℕ). Below x (f v)) (e i h) (above v q .1 i h)))
+      (lin .bounds v q (f u) .1 (above u p .0, λ i h. subst (λ (x : ℕ). Below x (f u)) (e i h) (above u p .1 i h)))
+
   -- where all but two parameters, or one, are at 0
   probe : (v : List ℕ) → Vector n v → (i k m : ℕ) → ((j : ℕ) → ¬ (j ≡ i) → ¬ (j ≡ k) → getD v j 0 ≡ 0)
       → Below b m → Below (act (w i) (getD v i 0)) m → Below (act (w k) (getD v k 0)) m → Below (f v) m
