@@ -11,8 +11,9 @@ use Rattle.laws.specs.Cards.{cardIn, nameAtParams}
 use Rattle.rules.specs.Run.{card, memoryAfter, result}
 use Rattle.rules.specs.State.{State, cardLevel, expansionOf, paramsOf}
 use Rattle.theory.proofs.Cards.{card-same}
+use Rattle.theory.proofs.ExactCards.{exact-cards}
 use Rattle.theory.specs.Card.{readCard}
-use Rattle.theory.specs.ExactCards.{ExactCards, cardFor, levelsAt}
+use Rattle.theory.specs.ExactCards.{cardFor, levelsAt}
 use Rattle.theory.specs.Level.{IsLevel}
 use Rattle.theory.specs.Lists.{All}
 use Rattle.theory.specs.Term.{level, longWay}
@@ -24,10 +25,10 @@ module _ (s : State) (good : Good s) (g : ℕ) (there : g < length (s .definitio
   pub card-body : card s g ≡ cardFor (paramsOf s g) (expansionOf s (nameAtParams s g))
   card-body = card-same (paramsOf s g) (cardLevel s g) (levelsAt (expansionOf s (nameAtParams s g))) card-level
 
-  module _ (X : ExactCards) (within : Within s) (ρ : List ℕ) (n : length ρ ≡ paramsOf s g) (a : All IsLevel ρ) where
+  module _ (within : Within s) (ρ : List ℕ) (n : length ρ ≡ paramsOf s g) (a : All IsLevel ρ) where
     pub card-holds : readCard (card s g) ρ ≡ cardLevel s g ρ
     card-holds =
-        ap (λ (c : List ℕ). readCard c ρ) card-body ∙ X .exact (paramsOf s g) (few-params s within g there) (expansionOf s (nameAtParams s g)) ρ (n, a)
+        ap (λ (c : List ℕ). readCard c ρ) card-body ∙ exact-cards .exact (paramsOf s g) (few-params s within g there) (expansionOf s (nameAtParams s g)) ρ (n, a)
         ∙ sym (card-level ρ n a)
 
     -- "what its card says at the levels of its arguments", read off its bytes in memory
