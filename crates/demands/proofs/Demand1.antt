@@ -17,7 +17,7 @@ use Rattle.laws.proofs.CheckMemory.{byteAfter, check-memory}
 use Rattle.laws.proofs.FileRefusals.{not-refusal}
 use Rattle.laws.proofs.Outputs.{output-length, output-unchanged}
 use Rattle.laws.proofs.QueryNumbers.{expression-numbers, file-numbers}
-use Rattle.laws.specs.Cards.{entryAt}
+use Rattle.laws.specs.Cards.{cardByte}
 use Rattle.laws.specs.Queries.{AlikeRefused, BodyRefused, ExpansionRefused, LevelRefused, TermRefused, at-fault, expressionNumbers, no-module}
 use Rattle.laws.specs.Refused.{FileRefused, OneOf}
 use Rattle.limits.specs.Limits.{cardBytes}
@@ -74,7 +74,7 @@ left-by-check file lent =
   where
     told : (o : Outcome State) → checked file lent ≡ o → (i : ℕ) → byteAfter o lent i ≡ byteLeft file lent (checkTells file lent) i
     told (result s) a i =
-        ap (λ (u : State). cond (ltb i (cardBytes * length (s .definitions))) (entryAt u (i / cardBytes) (i % cardBytes)) (getD lent i 0)) (sym (state-of file lent s a))
+        ap (λ (u : State). cond (ltb i (cardBytes * length (s .definitions))) (cardByte u (i / cardBytes) (i % cardBytes)) (getD lent i 0)) (sym (state-of file lent s a))
         ∙ ap (λ (o : Outcome ℕ). byteLeft file lent o i) (sym (accepted-told file lent s a))
     told (refusal c p) a i =
         ap (λ (o : Outcome ℕ). byteLeft file lent o i)

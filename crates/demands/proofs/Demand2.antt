@@ -13,23 +13,21 @@ use Rattle.demands.specs.Archive.{checkLeaves, expandTells, expandWrites
 use Rattle.demands.specs.Demand2.{Demand2}
 use Rattle.demands.specs.Replies.{Alike, AlikeReplied, BodyReplied, ExpansionReplied, ExpansionWritten, LevelReplied, QueryRefused, by-file, by-query}
 use Rattle.laws.proofs.Alike.{alike-cards, alike-replied}
-use Rattle.laws.proofs.CheckMemory.{card-byte}
+use Rattle.laws.proofs.CheckMemory.{card-byte, card-left}
 use Rattle.laws.proofs.Checks.{by-fields}
 use Rattle.laws.proofs.Demand3 as L
 use Rattle.laws.proofs.EqualCards.{one-spelling}
 use Rattle.laws.proofs.EqualMemory.{equal-memory}
 use Rattle.laws.proofs.FileRefusals.{check-refused, file-refused}
-use Rattle.laws.proofs.Memory.{card-in-memory}
 use Rattle.laws.proofs.Outputs.{output-written}
 use Rattle.laws.proofs.QueryRefusals as refusals
 use Rattle.laws.proofs.QueryReplies.{body-exact}
 use Rattle.laws.proofs.Replies.{Taken, andThen-result, definition-there, result-injective, taken-belongs}
-use Rattle.laws.proofs.Within.{within-file}
 use Rattle.laws.specs.Bodies.{Body}
 use Rattle.laws.specs.Cards.{cardPart}
 use Rattle.laws.specs.Queries.{termIn}
 use Rattle.rules.specs.Query.{ExpansionAnswer, alike, alikeQuery, alikeReply, bodyQuery, expansionBytesOf, expansionQuery, levelQuery, levelReply, theDefinition, unlessLonger}
-use Rattle.rules.specs.Run.{Outcome, andThen, card, checked, memoryAfter, result}
+use Rattle.rules.specs.Run.{Outcome, andThen, card, checked, result}
 use Rattle.limits.specs.Limits.{expansionBytes}
 use Rattle.rules.specs.Field.{Field}
 use Rattle.rules.specs.State.{State, definitionAt}
@@ -82,9 +80,7 @@ level-exactly file lent m levels bytes l = (there, back)
 -- ALIKE
 module _ (file lent : List ℕ) (g h : ℕ) (a : checked file lent ≡ result (stateOf file)) (l : g < length (stateOf file .definitions)) (k : h < length (stateOf file .definitions)) where
   in-memory : (i : ℕ) → i < length (stateOf file .definitions) → cardPart (checkLeaves file lent) i ≡ card (stateOf file) i
-  in-memory i l =
-      ap (λ (o : Outcome State). cardPart (memoryAfter o lent) i) a
-      ∙ card-in-memory (stateOf file) (within-file file (stateOf file) (by-fields file lent (stateOf file) a)) lent i l
+  in-memory = card-left file lent (stateOf file) a
 
   alike-bytes : (alike (stateOf file) g h ≡ true) ↔ Alike file (checkLeaves file lent) g h
   alike-bytes = (

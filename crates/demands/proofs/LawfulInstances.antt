@@ -12,12 +12,12 @@ use Rattle.demands.specs.LawfulInstances.{BroughtLawful, CardsStayLawful
 use Rattle.laws.proofs.Causes.{one-of}
 use Rattle.laws.proofs.Cause15.{same-checked}
 use Rattle.laws.proofs.Checks.{by-fields}
+use Rattle.laws.proofs.ExpandedCards.{card-says}
 use Rattle.laws.proofs.FileRefusals.{not-refusal, refusal-injective}
-use Rattle.laws.proofs.Invariant.{Good, good-adds, good-start}
+use Rattle.laws.proofs.Invariant.{Good, good-adds, good-file, good-start}
 use Rattle.laws.proofs.LawfulBrought.{Cleared, brought-correct, brought-lawful, cleared}
 use Rattle.laws.proofs.LawfulFiles.{brought-is, brought-there, original-there, stays-lawful}
 use Rattle.laws.proofs.LevelCorrect.{file-level-correct, level-correct-adds, level-correct-start}
-use Rattle.laws.proofs.Memory.{card-says}
 use Rattle.laws.proofs.Obeying.{obey-clears}
 use Rattle.laws.proofs.Within.{within-file}
 use Rattle.laws.specs.Lawful.{EachObeys, Free, Obeys, adds}
@@ -64,9 +64,10 @@ module _ (file lent : List ℕ) (k : ℕ) (told : checkTells file lent ≡ resul
   card-at-zero : (g : ℕ) → g < k → cardAtZero file (checkLeaves file lent) g ≡ levelAtZero (stateOf file) g
   card-at-zero g l =
       let n = paramsOf (stateOf file) g in
+      let fields = by-fields file lent (stateOf file) accepted in
       ap (λ (o : Outcome State). cardIn (memoryAfter o lent) g (zeros n)) accepted
-      ∙ card-says (stateOf file) (within-file file (stateOf file) (by-fields file lent (stateOf file) accepted)) lent g (zeros n) (omega (arith, counted)) (length-replicate n 0)
-      (replicate-all IsLevel n 0 (omega arith))
+      ∙ card-says (stateOf file) (good-file file (stateOf file) fields) g (omega (arith, counted)) (within-file file (stateOf file) fields) (zeros n) (length-replicate n 0)
+      (replicate-all IsLevel n 0 (omega arith)) lent
 
   module _ (o : Obeys file) {n p m : ℕ} {ss : List Substitution} (h : HasInstance (o .fields) n p m ss) (i : ℕ) (there : i < length (instanced h .definitions)) where
     brought : (originalNumber h i < k) × (broughtNumber h i < k)

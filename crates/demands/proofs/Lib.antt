@@ -15,3 +15,5 @@ pub mod Demand3
 pub mod RuledOut
 -- Lawful instances stay lawful
 pub mod LawfulInstances
+-- Short cards are exact
+pub mod ShortCards

@@ -13,7 +13,7 @@ use Rattle.limits.specs.Limits.{cardBytes, cardMemoryBytes}
 use Rattle.rules.proofs.Shapes.{_′, bytes, file, moduleOf, num, op, op₁, par}
 use Rattle.rules.specs.Field.{declare-constant, declare-variable, definition, instance}
 use Rattle.rules.specs.Run.{result}
-use Rattle.theory.specs.Card.{readCard}
+use Rattle.theory.specs.Card.{cardOf, readCard}
 use Rattle.theory.specs.Level.{row}
 use Rattle.theory.specs.Term.{Term, builtin, param}
 use Rattle.theory.specs.Tree.{_▹_, node, ⟨⟩}
@@ -23,14 +23,14 @@ abbrev two : List ℕ
 two = file (moduleOf 1 (definition 2 1 (par 0 ′) ∷ definition 3 1 (par 0) ∷ []))
 
 pub two-cards : (cards : List ℕ) → Enough cards
-    → (checkTells two cards ≡ result 2) × (getD (checkLeaves two cards) 0 0 ≡ 2) × (getD (checkLeaves two cards) cardBytes 0 ≡ 0)
-unfolding row
+    → (checkTells two cards ≡ result 2) × (getD (checkLeaves two cards) 1 0 ≡ 2) × (getD (checkLeaves two cards) (cardBytes + 1) 0 ≡ 0)
+unfolding row cardOf
 two-cards cards room = rw (le-ltb (length cards) cardMemoryBytes room) (refl, refl, refl)
 
 pub not-copied : (cards : List ℕ) → Enough cards → ¬ ((i : ℕ) → i < cardBytes → getD (checkLeaves two cards) (cardBytes + i) 0 ≡ getD (checkLeaves two cards) i 0)
 not-copied cards room copied =
     let (_, first, second) = two-cards cards room in
-    let same = copied 0 (omega arith) in
+    let same = copied 1 (omega arith) in
     absurd (omega (arith, first, second, same))
 
 -- From demand 3 alone, whatever bytes a checker leaves: the first card copied to the rest, or one card for all operators, does not meet it.
@@ -70,8 +70,8 @@ abbrev instanced : List ℕ
 instanced = file (moduleOf 1 (declare-constant 2 0 ∷ definition 3 0 (op 2) ∷ []) ++ moduleOf 4 (declare-variable 5 ∷ instance 6 0 1 ((2, op 5) ∷ []) ∷ []))
 
 pub not-the-old-card : (cards : List ℕ) → Enough cards
-    → (checkTells instanced cards ≡ result 2) × (getD (checkLeaves instanced cards) 0 0 ≡ 0) × (getD (checkLeaves instanced cards) cardBytes 0 ≡ 1)
-unfolding row
+    → (checkTells instanced cards ≡ result 2) × (getD (checkLeaves instanced cards) 1 0 ≡ 0) × (getD (checkLeaves instanced cards) (cardBytes + 1) 0 ≡ 1)
+unfolding row cardOf
 not-the-old-card cards room = rw (le-ltb (length cards) cardMemoryBytes room) (refl, refl, refl)
 
 -- "Checking dropped arguments: F((x')') would be refused": F(p) == 0, x a variable. The level query replies 0, and the expansion is the literal alone.
