@@ -45,6 +45,38 @@ fn texts_and_files() {
     }
 }
 
+/// A card is 32 hexadecimal digits: parameter count, level, weights, eight masks, four bytes of pairs and
+/// a zero; with n parameters n weights, masks and n(n - 1)/2 pairs are used.
+fn assert_card(stem: &str, parameters: usize, card: &str) {
+    let lower = |digit: u8| digit.is_ascii_digit() || (b'a'..=b'f').contains(&digit);
+    assert!(
+        card.len() == 32 && card.bytes().all(lower),
+        "{stem}: {card}"
+    );
+    let bytes: Vec<u8> = (0..16)
+        .map(|at| u8::from_str_radix(&card[2 * at..2 * at + 2], 16).expect("digits"))
+        .collect();
+    assert!(parameters <= 8, "{stem}: {card}");
+    assert_eq!(usize::from(bytes[0]), parameters, "{stem}: {card}");
+    assert!(bytes[1] < 4, "{stem}: {card}");
+    assert_eq!(u32::from(bytes[2]) >> parameters, 0, "{stem}: {card}");
+    for (at, mask) in bytes[3..11].iter().enumerate() {
+        let masks: &[u8] = if at < parameters {
+            &[31, 15, 7, 11, 3]
+        } else {
+            &[0]
+        };
+        assert!(masks.contains(mask), "{stem}: {card}");
+    }
+    let pairs = u32::from_be_bytes([bytes[11], bytes[12], bytes[13], bytes[14]]);
+    assert_eq!(
+        u64::from(pairs) >> (parameters * parameters.saturating_sub(1) / 2),
+        0,
+        "{stem}: {card}"
+    );
+    assert_eq!(bytes[15], 0, "{stem}: {card}");
+}
+
 #[test]
 fn listings_have_their_form() {
     for stem in stems() {
@@ -56,8 +88,8 @@ fn listings_have_their_form() {
                 assert_eq!(count.parse::<usize>(), Ok(lines.len() - 1), "{stem}");
                 for (number, line) in lines[1..].iter().enumerate() {
                     assert_eq!(line[0], number.to_string(), "{stem}");
-                    let parameters: u32 = line[3].parse().expect("a count");
-                    assert_eq!(line[4].len(), 5usize.pow(parameters), "{stem}");
+                    let parameters: usize = line[3].parse().expect("a count");
+                    assert_card(stem.as_str(), parameters, line[4]);
                 }
             }
             ["refused", _, place] => {
@@ -90,6 +122,10 @@ fn refusals() {
         ("trial-g-at-2-3", "refused 12 4\n", "Bad =="),
         ("mixed-formula", "refused 12 5\n", "Spec =="),
         ("mixed-instance", "refused 21 13\n", "Sheet == INSTANCE"),
+        ("winch-mixed", "refused 12 12\n", "Both =="),
+        ("parameters-9", "refused 5 2\n", "Nine("),
+        ("instance-parameters-9", "refused 5 6\n", "Bent("),
+        ("substitute-parameters-9", "refused 5 7\n", "Bent("),
     ] {
         assert_eq!(text(&format!("{stem}.listing")), refusal);
         let written = text(&format!("{stem}.tla"));
@@ -115,7 +151,9 @@ fn example() {
         0x01, 0x04, 0x70, 0x00, 0x00, 0x07, 0x00, 0x00,
     ];
     assert_eq!(bytes("example.bin"), paper);
-    assert_eq!(text("example.listing"), "ok 1\n0 0 3 1 22444\n");
+    let zeros = "0".repeat(24);
+    let listing = format!("ok 1\n0 0 3 1 01020003{zeros}\n");
+    assert_eq!(text("example.listing"), listing);
 }
 
 /// Definitions written out as the expansion gives them have the same cards.
