@@ -1,7 +1,11 @@
 //! The proved level checker for TLA+ modules, as safe functions over its static library.
 //!
-//! Nothing is decided here: the library's replies are taken apart, and that is all. Every call
-//! checks the file afresh and fills the card memory, as a check does.
+//! Nothing is decided here: the library's replies and its cards are taken apart, and that is all.
+//! Every call checks the file afresh and fills the card memory, as a check does.
+
+mod card;
+
+pub use card::{BadLevels, Card, Reading, Words};
 
 use std::ops::Range;
 
@@ -61,11 +65,14 @@ mod linked {
     }
 }
 
-/// The card memory that a call wants at least, in bytes.
-pub const CARD_MEMORY: usize = 32_000;
+/// The parameters that a definition may have at most, an instance's counted with its own.
+pub const MAX_PARAMETERS: usize = 8;
 
-/// The bytes of one card.
-pub const CARD: usize = 125;
+/// The bytes of one card: that of a definition stands at so many times its number.
+pub const CARD: usize = 16;
+
+/// The card memory that a call wants at least, in bytes: a card for each of 256 definitions.
+pub const CARD_MEMORY: usize = 256 * CARD;
 
 /// The bytes of the longest expansion: an output of this length is never too short.
 pub const EXPANSION: usize = 65_535;
@@ -180,14 +187,14 @@ pub fn expand_packed(
     }
 }
 
-/// Checks a file: the number of its definitions, whose cards are then in the card memory, 125
-/// bytes each.
+/// Checks a file: the number of its definitions, whose cards are then in the card memory, one after
+/// another ([`Card::of`] reads one).
 pub fn check(file: &[u8], cards: &mut [u8]) -> Result<u32, Refusal> {
     reply(check_packed(file, cards))
 }
 
-/// The level of an expression at the end of a module, from 0 to 4, with its parameters at the
-/// levels given. An expression may have any length.
+/// The level of an expression at the end of a module, from 0 to 4, with its parameters, 8 at most, at
+/// the levels given. An expression may have any length.
 pub fn level(
     file: &[u8],
     cards: &mut [u8],
@@ -215,7 +222,7 @@ pub fn body(file: &[u8], cards: &mut [u8], definition: u32) -> Result<Range<usiz
     }
 }
 
-/// The expansion of an expression over so many parameters at the end of a module: the part of the
+/// The expansion of an expression over so many parameters, 0 to 8, at the end of a module: the part of the
 /// output that it is written to. A refusal leaves the output as it was. An expression may have any
 /// length.
 pub fn expand<'o>(
@@ -259,8 +266,10 @@ mod tests {
         Err(Refusal { number, place })
     }
 
+    /// The example's card, and nothing after it.
     fn filled(cards: &[u8]) -> bool {
-        cards[..6] == [2, 2, 4, 4, 4, 0] && cards[CARD..].iter().all(|&byte| byte == 7)
+        let card = [1, 2, 0, 3, 0, 0, 0, 0, 0, 0, 0, 0, 0, 0, 0, 0];
+        cards[..CARD] == card && cards[CARD..].iter().all(|&byte| byte == 7)
     }
 
     fn cleared(cards: &[u8]) -> bool {
@@ -272,7 +281,41 @@ mod tests {
         let mut cards = memory();
         assert_eq!(check(&EXAMPLE, &mut cards), Ok(1));
         assert!(filled(&cards));
-        assert!(cards[5..CARD].iter().all(|&entry| entry == 0));
+        let card = Card::of(&cards, 0).expect("a card");
+        let levels: Vec<_> = (0..5).map(|level| card.level(&[level])).collect();
+        assert_eq!(levels, [2, 2, 4, 4, 4].map(Ok));
+        assert_eq!(Card::of(&cards, 1), None);
+    }
+
+    /// A card of eight parameters says what the level query replies.
+    #[test]
+    fn eight_parameters() {
+        // a /\ ENABLED (b /\ e') /\ (d \/ h) /\ f /\ ENABLED f /\ \E z \in g : z
+        let body = [
+            4, 49, 4, 49, 4, 49, 4, 49, 4, 49, 0, 0, 4, 113, 4, 49, 0, 1, 4, 112, 0, 4, 4, 50, 0,
+            3, 0, 7, 0, 5, 4, 113, 0, 5, 4, 132, 0, 6, 1, 0, 0,
+        ];
+        let mut file = vec![1, 0, 2, 0, 1, 5, 0, 3 + body.len() as u8, 0, 1, 8];
+        file.extend(body);
+        file.extend([7, 0, 0]);
+        let mut cards = memory();
+        assert_eq!(check(&file, &mut cards), Ok(1));
+        let card = Card::of(&cards, 0).expect("a card");
+        assert_eq!(format!("{card:x}"), "0801e90f071f0f03070f0f0d34a40800");
+        let vectors = (0..8u32).flat_map(|i| (0..125u8).map(move |entry| (i, entry)));
+        for (place, entry) in vectors {
+            // Three neighbours at every choice of levels, the others at 1.
+            let mut levels = [1; 8];
+            for (next, scale) in [1, 5, 25].into_iter().enumerate() {
+                levels[(place as usize + next) % 8] = entry / scale % 5;
+            }
+            let expected = level(&file, &mut cards, 1, &body, &levels);
+            assert_eq!(
+                card.level(&levels).map_err(|_| ()),
+                expected.map_err(|_| ()),
+                "{levels:?}"
+            );
+        }
     }
 
     #[test]
@@ -317,8 +360,10 @@ mod tests {
         }
         assert_eq!(ask(2, &X, &[]), refused(17, 0));
         assert_eq!(ask(1, &[], &[]), refused(3, FIELDS));
-        assert_eq!(ask(1, &X, &[5, 0, 0, 0]), refused(3, FIELDS));
-        assert_eq!(ask(1, &X, &[0; 4]), refused(5, FIELDS));
+        assert_eq!(ask(1, &X, &[0; 8]), Ok(1));
+        assert_eq!(ask(1, &[0, 7], &[0, 0, 0, 0, 0, 0, 0, 3]), Ok(3));
+        assert_eq!(ask(1, &X, &[0, 0, 0, 0, 0, 0, 0, 0, 5]), refused(3, FIELDS));
+        assert_eq!(ask(1, &X, &[0; 9]), refused(5, FIELDS));
         assert_eq!(ask(1, &[0, 0], &[]), refused(9, FIELDS));
         assert_eq!(ask(1, &[2, 0, 3, 0], &[]), refused(10, FIELDS));
     }
@@ -368,8 +413,8 @@ mod tests {
             let twice = [&[2, 0, 3, 1][..], &defined].concat();
             let expected = [&prime[..], &expected].concat();
             assert_eq!(expansion(1, &twice, 0, 99), Ok(expected));
-            let over = [2, 0, 3, 1, 0, 2];
-            assert_eq!(expansion(1, &over, 3, 4), Ok(vec![4, 112, 0, 2]));
+            let over = [2, 0, 3, 1, 0, 7];
+            assert_eq!(expansion(1, &over, 8, 4), Ok(vec![4, 112, 0, 7]));
         });
     }
 
@@ -381,8 +426,8 @@ mod tests {
                 assert_eq!(expansion(1, &defined, 0, room), refused(18, 0));
             }
             assert_eq!(expansion(2, &[], 9, 0), refused(17, 0));
-            assert_eq!(expansion(1, &[], 4, 0), refused(3, FIELDS));
-            assert_eq!(expansion(1, &X, 4, 99), refused(5, FIELDS));
+            assert_eq!(expansion(1, &[], 9, 0), refused(3, FIELDS));
+            assert_eq!(expansion(1, &X, 9, 99), refused(5, FIELDS));
             assert_eq!(expansion(1, &X, 255, 99), refused(5, FIELDS));
             assert_eq!(expansion(1, &[0, 0], 0, 99), refused(9, FIELDS));
             assert_eq!(expansion(1, &[2, 0, 3, 0], 0, 99), refused(10, FIELDS));

@@ -28,9 +28,13 @@ static int is_refusal(uint32_t reply, uint32_t number, uint32_t place) {
 }
 
 static int checks(void) {
+    static const uint8_t expected[RAFTERCLARY_CARD_BYTES] = {1, 2, 0, 3};
+    static const uint8_t expected_levels[] = {2, 2, 4, 4, 4};
     EXPECT(rafterclary_check(example, sizeof example, cards, sizeof cards) == 1);
-    EXPECT(cards[0] == 2 && cards[1] == 2 && cards[2] == 4 && cards[3] == 4 && cards[4] == 4 &&
-           cards[5] == 0);
+    EXPECT(memcmp(rafterclary_card(cards, 0), expected, sizeof expected) == 0);
+    for (uint8_t level = 0; level < 5; level++) {
+        EXPECT(rafterclary_card_level(cards, &level, 1) == expected_levels[level]);
+    }
     EXPECT(
         !RAFTERCLARY_IS_REFUSAL(rafterclary_check(example, sizeof example, cards, sizeof cards)));
     EXPECT(is_refusal(rafterclary_check(example, 20, cards, sizeof cards), 4, 3));
@@ -41,12 +45,18 @@ static int checks(void) {
 
 static int queries(void) {
     static const uint8_t level_3[] = {3};
+    static const uint8_t zeros[9] = {0};
     static const uint8_t parameter[] = {0, 0};
     EXPECT(rafterclary_level(example, sizeof example, cards, sizeof cards, 1, parameter,
                              sizeof parameter, level_3, 1) == 3);
     EXPECT(is_refusal(rafterclary_level(example, sizeof example, cards, sizeof cards, 1, parameter,
                                         sizeof parameter, level_3, 0),
                       9, 4));
+    EXPECT(rafterclary_level(example, sizeof example, cards, sizeof cards, 1, parameter,
+                             sizeof parameter, zeros, RAFTERCLARY_MAX_PARAMETERS) == 0);
+    EXPECT(is_refusal(rafterclary_level(example, sizeof example, cards, sizeof cards, 1, parameter,
+                                        sizeof parameter, zeros, sizeof zeros),
+                      5, 4));
     EXPECT(rafterclary_alike(example, sizeof example, cards, sizeof cards, 0, 0) == 1);
     EXPECT(
         is_refusal(rafterclary_alike(example, sizeof example, cards, sizeof cards, 0, 1), 17, 0));
@@ -60,14 +70,17 @@ static int queries(void) {
 }
 
 static int expansions(void) {
-    static const uint8_t defined[] = {2, 0, 3, 1, 0, 2};
-    static const uint8_t expected[] = {4, 112, 0, 2};
+    static const uint8_t defined[] = {2, 0, 3, 1, 0, 7};
+    static const uint8_t expected[] = {4, 112, 0, 7};
     EXPECT(rafterclary_expand(example, sizeof example, cards, sizeof cards, 1, defined,
-                              sizeof defined, 3, out, sizeof out) == 4);
+                              sizeof defined, 8, out, sizeof out) == 4);
     EXPECT(memcmp(out, expected, sizeof expected) == 0 && out[4] == 0);
     EXPECT(is_refusal(rafterclary_expand(example, sizeof example, cards, sizeof cards, 1, defined,
-                                         sizeof defined, 3, out, 3),
+                                         sizeof defined, 8, out, 3),
                       18, 0));
+    EXPECT(is_refusal(rafterclary_expand(example, sizeof example, cards, sizeof cards, 1, defined,
+                                         sizeof defined, 9, out, sizeof out),
+                      5, 4));
     return 0;
 }
 
