@@ -212,18 +212,37 @@ impl Words<'_> {
         name.map_or_else(|| format!("p{parameter}"), String::clone)
     }
 
-    fn parameter(&self, f: &mut Formatter, parameter: usize) -> fmt::Result {
-        write!(f, "; {} ", self.name(parameter))?;
-        match self.card.mask(parameter) {
-            0 => f.write_str("none")?,
-            _ => {
-                let mut taken = (0..=INCORRECT).filter(|&level| self.card.takes(parameter, level));
-                taken.try_for_each(|level| write!(f, "{level}"))?;
+    /// The parameters that are taken at the same levels and weigh alike, as one.
+    fn groups(&self) -> Vec<Vec<usize>> {
+        let kind = |each: usize| (self.card.mask(each), self.card.weighs(each));
+        let mut groups: Vec<Vec<usize>> = Vec::new();
+        for parameter in 0..self.card.parameters() {
+            match groups
+                .iter_mut()
+                .find(|group| kind(group[0]) == kind(parameter))
+            {
+                Some(group) => group.push(parameter),
+                None => groups.push(vec![parameter]),
             }
         }
-        match self.card.weighs(parameter) {
-            true => f.write_str(" weighs"),
-            false => Ok(()),
+        groups
+    }
+
+    fn list(&self, parameters: &[usize]) -> String {
+        let names: Vec<String> = parameters.iter().map(|&each| self.name(each)).collect();
+        names.join(", ")
+    }
+
+    /// Levels are digits run together.
+    fn group(&self, f: &mut Formatter, group: &[usize]) -> fmt::Result {
+        let taken = (0..=INCORRECT).filter(|&level| self.card.takes(group[0], level));
+        let taken: String = taken.map(|level| char::from(b'0' + level)).collect();
+        let taken = if taken.is_empty() { "none" } else { &taken };
+        write!(f, "; {} {taken}", self.list(group))?;
+        match (self.card.weighs(group[0]), group.len()) {
+            (false, _) => Ok(()),
+            (true, 1) => f.write_str(" weighs"),
+            (true, _) => f.write_str(" weigh"),
         }
     }
 
@@ -232,8 +251,7 @@ impl Words<'_> {
         let within = |each: &usize| pairs.iter().any(|&(i, j)| i == *each || j == *each);
         let meet: Vec<usize> = (0..self.card.parameters()).filter(within).collect();
         if meet.len() > 2 && pairs.len() == pair_bit(0, meet.len()) {
-            let names: Vec<String> = meet.into_iter().map(|each| self.name(each)).collect();
-            return write!(f, "; any two of {} clash", names.join(", "));
+            return write!(f, "; any two of {} clash", self.list(&meet));
         }
         for (place, (i, j)) in pairs.into_iter().enumerate() {
             let before = if place == 0 { "; clash" } else { "," };
@@ -246,8 +264,8 @@ impl Words<'_> {
 impl Display for Words<'_> {
     fn fmt(&self, f: &mut Formatter) -> fmt::Result {
         write!(f, "level {}", self.card.level_at_zero())?;
-        for parameter in 0..self.card.parameters() {
-            self.parameter(f, parameter)?;
+        for group in self.groups() {
+            self.group(f, &group)?;
         }
         self.clashes(f)
     }

@@ -1,33 +1,22 @@
 //! The proved archive.
 
 use checker::EXPANSION;
-pub use checker::{Refusal, CARD};
+pub use checker::{Card, Reading, Refusal, MAX_PARAMETERS};
 use std::ops::Range;
-
-/// The cards of an accepted file.
-pub struct Cards {
-    memory: Vec<u8>,
-    /// The number of definitions.
-    pub count: usize,
-}
-
-impl Cards {
-    /// The used entries of a card, the level with parameters at a, b, c being entry a + 5b + 25c.
-    pub fn entries(&self, definition: usize, parameters: u8) -> &[u8] {
-        let used = 5usize.pow(u32::from(parameters)).min(CARD);
-        &self.memory[CARD * definition..][..used]
-    }
-}
 
 fn memory() -> Vec<u8> {
     vec![0; checker::CARD_MEMORY]
 }
 
-/// Checks a file.
-pub fn check(file: &[u8]) -> Result<Cards, Refusal> {
+/// Checks a file: the cards of its definitions.
+pub fn check(file: &[u8]) -> Result<Vec<Card>, Refusal> {
     let mut memory = memory();
-    let count = checker::check(file, &mut memory)? as usize;
-    Ok(Cards { memory, count })
+    let count = checker::check(file, &mut memory)?;
+    let each = (0..count as usize).map(|number| {
+        let card = Card::of(&memory, number);
+        card.expect("for each definition the archive leaves a card")
+    });
+    Ok(each.collect())
 }
 
 /// The level of an expression at the end of a module.

@@ -11,6 +11,7 @@ Examples:
   rafterclary list samples/channel.tla --names        all definitions with their cards
   rafterclary list samples/channel.bin --json         the same for a script
   rafterclary card samples/channel.tla 0              a card as a table
+  rafterclary card samples/winch.tla Ready slack=2    and the level that it gives
   rafterclary level samples/depth-lawful.tla Panel \"draghead' + p\" p=1
   rafterclary alike samples/channel.bin 0 7           whether two definitions have one card
   rafterclary body samples/channel.bin 7              the bytes that hold a definition's body
@@ -24,6 +25,19 @@ the readable notation and is converted first. `-` is standard input. `--as` over
 
 Exit status: 0 accepted or answered, 1 refused, 2 misuse (bad arguments, a file or an expression
 that cannot be read). With many files the worst counts.";
+
+const CARD_EXAMPLES: &str = "\
+Examples:
+  rafterclary card samples/channel.tla 0
+  rafterclary card samples/winch.tla Winch:Ready
+  rafterclary card samples/winch.tla 'Port!Ready' slack=2 brake=temporal
+  rafterclary card samples/winch.tla 1 1 2 1 1 3 2
+
+A card says what level a definition has at any levels of its parameters: 4 if a level is not taken,
+or if two parameters that clash are at 2 and at 3; else the highest of the level with all at 0 and
+the levels of the parameters that weigh.
+
+Exit status: 0 answered, 1 refused, 2 misuse.";
 
 const LEVEL_EXAMPLES: &str = "\
 Examples:
@@ -140,12 +154,17 @@ pub enum Command {
         #[arg(value_name = "FILE")]
         files: Vec<PathBuf>,
     },
-    /// Draw the level card of one definition
+    /// Draw the level card of one definition, and read it at given levels
+    #[command(after_help = CARD_EXAMPLES)]
     Card {
         /// A tagged file, or text if its name ends in .tla; `-` is standard input
         file: PathBuf,
         /// Its number, or NAME or INSTANCE!NAME, with MODULE: before it where several have the name
         definition: String,
+        /// Levels to read it at: NAME=LEVEL, or LEVEL alone for the parameters in turn; those that
+        /// are not given are at 0
+        #[arg(value_name = "LEVEL")]
+        levels: Vec<String>,
     },
     /// Tell the level of an expression at the end of a module
     #[command(after_help = LEVEL_EXAMPLES)]
@@ -156,7 +175,7 @@ pub enum Command {
         module: String,
         /// In the readable notation, over the names of the module and of the parameters
         expression: String,
-        /// A level for each parameter: NAME=LEVEL, or LEVEL alone for p0, p1 and p2 in turn
+        /// A level for each parameter: NAME=LEVEL, or LEVEL alone for p0, p1 and so on; 8 at most
         #[arg(value_name = "LEVEL")]
         levels: Vec<String>,
         /// The expression is given as bytes in hexadecimal
@@ -190,7 +209,7 @@ pub enum Command {
         module: String,
         /// In the readable notation, over the names of the module and of the parameters
         expression: String,
-        /// The names of its parameters, with commas between them
+        /// The names of its parameters, 8 at most, with commas between them
         #[arg(long, value_name = "NAMES", value_delimiter = ',')]
         params: Vec<String>,
         /// The expression is given as bytes in hexadecimal

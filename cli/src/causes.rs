@@ -95,9 +95,9 @@ pub fn takes(code: u8) -> Option<&'static str> {
 const CAUSES: [Cause; 18] = [
     Cause {
         number: 1,
-        title: "card memory under 32,000 bytes",
-        meaning: "The caller lends the checker too little memory for the cards. Nothing is read and \
-            nothing is written. The programs here always lend enough; a program that calls the \
+        title: "card memory under 4,096 bytes",
+        meaning: "The caller lends the checker too little memory for the cards: 16 bytes for each of \
+            256 definitions. Nothing is read and nothing is written. The programs here always lend enough; a program that calls the \
             archive itself may not.",
         example: Example::None,
     },
@@ -128,9 +128,10 @@ const CAUSES: [Cause; 18] = [
         number: 5,
         title: "a limit passed",
         meaning: "16 modules, 64 declarations and 256 definitions in a file (those that instances \
-            bring counted), 3 parameters or arguments (an instance's and an operator's own added \
-            together), and nesting 32 in an expression.",
-        example: Example::Text("---- MODULE M ----\nCONSTANT K(_, _, _, _)\n"),
+            bring counted), 8 parameters or arguments (an instance's and an operator's own added \
+            together, and likewise an instance's and those of an operator that it replaces), and \
+            nesting 32 in an expression.",
+        example: Example::Text("---- MODULE M ----\nCONSTANT K(_, _, _, _, _, _, _, _, _)\n"),
     },
     Cause {
         number: 6,

@@ -1,6 +1,6 @@
 //! The shapes of `--json`: one object on a line for each file.
 
-use crate::archive::Refusal;
+use crate::archive::{self, Refusal};
 use crate::causes::title;
 use crate::finding::Finding;
 use crate::input::Input;
@@ -82,9 +82,17 @@ pub struct Card {
     pub instance: u16,
     /// The number of the name.
     pub name: u16,
-    pub parameters: u8,
-    /// The used entries, as digits run together.
-    pub levels: String,
+    pub parameters: usize,
+    /// Its bytes in hexadecimal, as in the listing.
+    pub card: String,
+    /// With all parameters at 0.
+    pub level: u8,
+    /// Of each parameter, bit l being set if level l is taken.
+    pub masks: Vec<u8>,
+    /// Of each parameter, whether it weighs.
+    pub weighs: Vec<bool>,
+    /// The pairs of parameters that clash, counted from 0.
+    pub clashes: Vec<(usize, usize)>,
     pub module: String,
     /// The name as it is written, `I!F` for a brought one.
     pub written: String,
@@ -93,26 +101,28 @@ pub struct Card {
 }
 
 impl Card {
-    pub fn new(input: &Input, number: usize, definition: &Definition, entries: &[u8]) -> Card {
+    pub fn new(
+        input: &Input,
+        number: usize,
+        definition: &Definition,
+        card: &archive::Card,
+    ) -> Card {
+        let parameters = card.parameters();
         Card {
             number,
             instance: definition.instance,
             name: definition.name,
-            parameters: definition.parameters,
-            levels: digits(entries),
+            parameters,
+            card: format!("{card:x}"),
+            level: card.level_at_zero(),
+            masks: (0..parameters).map(|each| card.mask(each)).collect(),
+            weighs: (0..parameters).map(|each| card.weighs(each)).collect(),
+            clashes: card.clashes().collect(),
             module: input.module(definition.module),
             written: written(input, definition),
             field: definition.field,
         }
     }
-}
-
-/// Levels as digits run together.
-pub fn digits(entries: &[u8]) -> String {
-    entries
-        .iter()
-        .map(|level| char::from(b'0' + level))
-        .collect()
 }
 
 /// A definition's name, `I!F` for a brought one.
@@ -162,6 +172,17 @@ pub struct Drawn<'r> {
     #[serde(flatten)]
     pub card: Card,
     pub parameter_names: Vec<String>,
+    /// The card read at levels, if some are given.
+    #[serde(skip_serializing_if = "Option::is_none")]
+    pub read: Option<Read>,
+}
+
+#[derive(Serialize)]
+pub struct Read {
+    /// Of each parameter.
+    pub levels: Vec<u8>,
+    pub level: u8,
+    pub why: String,
 }
 
 /// What `show` says.

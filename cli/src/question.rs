@@ -179,16 +179,65 @@ pub fn levelled(names: &Names, levels: &[String]) -> Result<Vec<Parameter>, Misu
             Some((name, level)) => (name.to_string(), level),
             None => (invented(names, place), word.as_str()),
         };
-        let book = LEVELS.iter().take(4).position(|each| *each == level);
-        let level = book.map(|level| level as u8).or_else(|| level.parse().ok());
-        level.map(|level| Parameter { name, level }).ok_or_else(|| {
-            Misuse::Message(format!(
-                "{word} is not a level: 0 to 4, constant, state, transition or temporal, \
-                     or NAME=LEVEL"
-            ))
-        })
+        let level = given_level(word, level)?;
+        Ok(Parameter { name, level })
     });
     each.collect()
+}
+
+/// A level as a number or a word.
+fn given_level(word: &str, level: &str) -> Result<u8, Misuse> {
+    let book = LEVELS.iter().take(4).position(|each| *each == level);
+    let level = book.map(|level| level as u8).or_else(|| level.parse().ok());
+    level.ok_or_else(|| {
+        Misuse::Message(format!(
+            "{word} is not a level: 0 to 4, constant, state, transition or temporal, or NAME=LEVEL"
+        ))
+    })
+}
+
+/// A level for each parameter of a definition: `NAME=LEVEL`, or levels in turn; 0 where none is
+/// given.
+pub fn levels_of(
+    written: &str,
+    parameters: &[String],
+    words: &[String],
+) -> Result<Vec<u8>, Misuse> {
+    let misuse = |message: String| Err(Misuse::Message(format!("{written} {message}")));
+    let mut levels = vec![None; parameters.len()];
+    for (turn, word) in words.iter().enumerate() {
+        let (place, level) = match word.split_once('=') {
+            None => (turn, word.as_str()),
+            Some((name, level)) => {
+                let called = parameters.iter().enumerate();
+                let called = called.filter(|(_, each)| *each == name);
+                let places: Vec<usize> = called.map(|(place, _)| place).collect();
+                match places[..] {
+                    [place] => (place, level),
+                    [] => return misuse(format!("has no parameter {name}")),
+                    _ => return misuse(format!("has several parameters {name}: give all in turn")),
+                }
+            }
+        };
+        let count = parameters.len();
+        match levels.get_mut(place) {
+            None => return misuse(format!("has {count} parameters, and more levels are given")),
+            Some(Some(_)) => {
+                let name = &parameters[place];
+                return misuse(format!(
+                    "has one parameter {name}, and two levels are given for it"
+                ));
+            }
+            Some(none) => match given_level(word, level)? {
+                level @ 0..=4 => *none = Some(level),
+                level => {
+                    let name = &parameters[place];
+                    return misuse(format!("cannot have {name} at {level}: levels are 0 to 4"));
+                }
+            },
+        }
+    }
+    Ok(levels.into_iter().map(|level| level.unwrap_or(0)).collect())
 }
 
 fn invented(names: &Names, place: usize) -> String {

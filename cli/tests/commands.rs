@@ -11,29 +11,169 @@ fn cards() {
     assert_eq!(example.status, 0);
     assert_eq!(
         example.text(),
-        "n3(p0), definition 0, module n1\n\n  p0     0 1 2 3 4\n  level  2 2 4 4 4\n\n\
+        "n3(p0), definition 0, module n1\n\n  level with all at 0: 2 transition\n\n      \
+         takes      weighs  clashes with\n  p0  0 1 - - -\n\n  \
+         4 at a level that is not taken (-)\n  else 2\n\n  \
+         01 02 00  03 00 00 00 00 00 00 00  00 00 00 00  00\n\n\
          0 constant, 1 state, 2 transition, 3 temporal, 4 not level-correct\n"
     );
     let none = run(&["card", "samples/depth-lawful.tla", "Head!Sink"]);
     assert!(none
         .text()
-        .contains("Head!Sink, definition 6, module Panel\n\n  2  transition\n"));
+        .contains("Head!Sink, definition 6, module Panel\n\n  level 2 transition\n\n  00 02 00  "));
     let two = run(&["card", "samples/relation.tla", "Relation:Pred"]);
     assert!(two
         .text()
-        .contains("  v     0 1 2 3 4\n  0     0 1 2 3 4\n  1     1 1 2 3 4\n"));
+        .contains("  u  0 1 2 3 -  yes     v\n  v  0 1 2 3 -  yes     u\n"));
+    // An instance's parameters come first.
     let three = run(&["card", "samples/relation.tla", "Steeper!Inverse"]);
     assert!(three
         .text()
         .starts_with("Steeper!Inverse(by, v, u), definition 23, module Dredge\n"));
-    assert_eq!(three.text().matches("u at ").count(), 5);
-    let json = &run(&["card", "--json", "samples/relation.tla", "23"]).json()[0];
-    assert_eq!(json["written"], "Steeper!Inverse");
-    assert_eq!(json["parameter_names"], serde_json::json!(["by", "v", "u"]));
-    assert_eq!(json["levels"].as_str().map(str::len), Some(125));
+    let eight = run(&["card", "samples/instance-parameters-8.tla", "Bent!Haul"]);
+    assert!(eight
+        .text()
+        .starts_with("Bent!Haul(trim, heel, rope, step, slack, load, brake, order), "));
+    assert!(eight
+        .text()
+        .contains("\n  load   0 1 2 - -\n  brake  0 1 2 3 4\n"));
     let refused = run(&["card", "samples/depth-accident.tla", "0"]);
     assert_eq!(refused.status, 1);
     assert!(refused.text().contains("refused 14"));
+}
+
+#[test]
+fn cards_as_json() {
+    let json = &run(&["card", "--json", "samples/winch.tla", "Ready"]).json()[0];
+    let expected = serde_json::json!({
+        "file": "samples/winch.tla", "number": 1, "instance": 0, "name": 3, "parameters": 6,
+        "card": "06011c03070f0f0f0700000000032000", "level": 1,
+        "masks": [3, 7, 15, 15, 15, 7],
+        "weighs": [false, false, true, true, true, false],
+        "clashes": [[2, 3], [2, 4], [3, 4]],
+        "module": "Winch", "written": "Ready", "field": 3,
+        "parameter_names": ["rope", "step", "slack", "load", "brake", "order"],
+    });
+    assert_eq!(json, &expected);
+    let words = ["card", "--json", "samples/winch.tla", "Ready"];
+    let json = &run(&[&words[..], &["slack=transition", "brake=3"]].concat()).json()[0];
+    let expected = serde_json::json!({
+        "levels": [0, 0, 2, 0, 3, 0], "level": 4, "why": "slack at 2 and brake at 3 clash",
+    });
+    assert_eq!(json["read"], expected);
+}
+
+/// Levels by name, in turn, in words; what is not given is at 0.
+#[test]
+fn cards_at_levels() {
+    for (levels, said) in [
+        (
+            &["slack=2", "brake=3"][..],
+            "rope=0 step=0 slack=2 load=0 brake=3 order=0: 4 not level-correct: \
+             slack at 2 and brake at 3 clash",
+        ),
+        (
+            &["2"],
+            "rope=2 step=0 slack=0 load=0 brake=0 order=0: 4 not level-correct: \
+             rope is not taken at 2",
+        ),
+        (
+            &["1", "2", "1", "1", "temporal", "2"],
+            "rope=1 step=2 slack=1 load=1 brake=3 order=2: 3 temporal: \
+             brake at 3 is the highest that weighs",
+        ),
+        (
+            &["1", "order=transition", "load=state"],
+            "rope=1 step=0 slack=0 load=1 brake=0 order=2: 1 state: \
+             nothing that weighs is above 1",
+        ),
+    ] {
+        let words = ["card", "samples/winch.tla", "Ready"];
+        let told = run(&[&words[..], levels].concat());
+        assert_eq!((told.status, told.err.as_str()), (0, ""));
+        let line = format!("\n  at {said}\n\n0 constant, ");
+        assert!(told.text().contains(&line), "{levels:?}: {}", told.text());
+    }
+    for (levels, said) in [
+        (&["wind=1"][..], "Ready has no parameter wind"),
+        (
+            &["slack=5"],
+            "Ready cannot have slack at 5: levels are 0 to 4",
+        ),
+        (&["slack=high"], "slack=high is not a level"),
+        (
+            &["0"; 7],
+            "Ready has 6 parameters, and more levels are given",
+        ),
+        (&["1", "rope=1"], "two levels are given for it"),
+    ] {
+        let words = ["card", "samples/winch.tla", "Ready"];
+        let told = run(&[&words[..], levels].concat());
+        assert_eq!((told.status, told.text()), (2, ""), "{levels:?}");
+        assert!(told.err.contains(said), "{levels:?}: {}", told.err);
+    }
+    let twice =
+        b"---- MODULE M ----\nD(p) == p\n====\n---- MODULE N ----\nI(p) == INSTANCE M\n====\n";
+    let told = run_with(&["card", "--as", "text", "-", "I!D", "p=1"], twice);
+    assert_eq!(told.status, 2);
+    assert!(
+        told.err
+            .contains("I!D has several parameters p: give all in turn"),
+        "{}",
+        told.err
+    );
+    let told = run_with(&["card", "--as", "text", "-", "I!D", "4", "1"], twice);
+    assert!(told
+        .text()
+        .contains("at p=4 p=1: 1 state: p at 1 is the highest that weighs"));
+}
+
+/// What is read from a card is what the archive replies of a call.
+#[test]
+fn cards_and_levels() {
+    let mut compared = 0;
+    for (file, module, name, count) in [
+        ("samples/winch.tla", "Winch", "Held", 6),
+        ("samples/winch.tla", "Deck", "Port!Ready", 6),
+        ("samples/winch.tla", "Deck", "Port!Watch", 6),
+        ("samples/parameters-8.tla", "Eight", "Some", 8),
+        ("samples/instance-parameters-8.tla", "Deck", "Bent!Slow", 8),
+    ] {
+        let names: Vec<String> = (0..count).map(|each| format!("p{each}")).collect();
+        let call = format!("{name}({})", names.join(", "));
+        for seed in 0..40usize {
+            let level = |place: usize| (seed * (place + 3) + seed / 7 * place) % 9 / 2;
+            let levels: Vec<String> = (0..count).map(|each| level(each).to_string()).collect();
+            let levels: Vec<&str> = levels.iter().map(String::as_str).collect();
+            let card = [&["card", "--json", file, name], &levels[..]].concat();
+            let asked = [&["level", "--json", file, module, &call], &levels[..]].concat();
+            let (card, asked) = (&run(&card).json()[0], &run(&asked).json()[0]);
+            assert_eq!(card["read"]["level"], asked["level"], "{name} {levels:?}");
+            compared += usize::from(asked["level"] != 4);
+        }
+    }
+    assert!(compared > 20, "{compared}");
+}
+
+/// One line for each definition, with its card in words.
+#[test]
+fn lists_with_names() {
+    let listed = run(&["list", "--names", "samples/winch.tla"]);
+    let lines: Vec<&str> = listed.text().lines().collect();
+    assert_eq!(lines.len(), 15);
+    assert_eq!(lines[0], "module Winch");
+    assert_eq!(
+        lines[2],
+        "    1  Ready       6  level 1; rope 01; step, order 012; slack, load, brake 0123 weigh; \
+         any two of slack, load, brake clash"
+    );
+    assert_eq!(lines[14], "   12  Able        0  level 3");
+    let listed = run(&["list", "--names", "samples/parameters-8.tla"]);
+    assert!(listed.text().contains(
+        "    4  Last   8  level 0; a, b, c, d, e, f 01234; g, h 0123 weigh; clash g/h\n"
+    ));
+    let listed = run(&["list", "--names", "samples/example.bin"]);
+    assert_eq!(listed.text(), "module n1\n    0  n3  1  level 2; p0 01\n");
 }
 
 /// Each smallest file is refused by its number, as the archive says.
@@ -194,5 +334,5 @@ fn examples() {
             ran += 1;
         }
     }
-    assert_eq!(ran, 11);
+    assert_eq!(ran, 12);
 }

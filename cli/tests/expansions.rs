@@ -140,10 +140,10 @@ fn refused_in_words() {
         (&["99", "x"][..], 17, 0, "the file has no module n99"),
         (&["Trial", "--hex", ""], 3, 15, "byte 0: bytes are missing"),
         (
-            &["Trial", "p", "--params", "p,q,r,s"],
+            &["Trial", "p", "--params", "p,q,r,s,t,u,v,w,z"],
             5,
             15,
-            "4 parameters are given, and the limit is 3",
+            "9 parameters are given, and the limit is 8",
         ),
         (&["Trial", "F(n77)"], 9, 15, "n77 is not known here"),
         (&["Trial", "?p0"], 9, 15, "there is no parameter 0 here"),
@@ -196,7 +196,7 @@ fn one_level() {
         for card in [0, cards.len() / 2, cards.len() - 1].map(|number| &cards[number]) {
             let number = |key: &str| card[key].as_u64().expect("a number");
             let count = number("parameters") as usize;
-            let names = ["p0", "p1", "p2"][..count].join(",");
+            let names = ["p0", "p1", "p2", "p3", "p4", "p5", "p6", "p7"][..count].join(",");
             let call = match number("instance") {
                 0 => format!("n{}", number("name")),
                 instance => format!("n{instance}!n{}", number("name")),
@@ -211,10 +211,11 @@ fn one_level() {
                 words.extend(["--params", &names]);
             }
             let (expansion, _) = expanded(&words);
-            for levels in [["0", "0", "0"], ["2", "3", "1"], ["1", "0", "4"]] {
+            for levels in ["0 0 0 0 0 0 0 0", "2 3 1 2 0 1 3 0", "1 0 4 1 1 2 0 2"] {
+                let levels: Vec<&str> = levels.split(' ').take(count).collect();
                 let level = |expression: &str| {
                     let words = ["level", &path, module, expression];
-                    let told = run(&[&words[..], &levels[..count]].concat());
+                    let told = run(&[&words[..], &levels].concat());
                     assert_eq!(told.status, 0, "{stem}: {expression}: {}", told.text());
                     told.text().to_string()
                 };

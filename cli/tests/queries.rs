@@ -146,6 +146,57 @@ fn reasons_of_4() {
     }
 }
 
+/// As many levels as there may be.
+#[test]
+fn eight_levels() {
+    let words = ["level", "samples/parameters-8.tla", "Eight"];
+    for (expression, levels, reply) in [
+        (
+            "All(p0, p1, p2, p3, p4, p5, p6, p7)",
+            "0 0 0 0 0 0 0 0",
+            "0 constant\n",
+        ),
+        (
+            "All(p0, p1, p2, p3, p4, p5, p6, p7)",
+            "1 2 0 0 2 1 0 0",
+            "2 transition\n",
+        ),
+        (
+            "All(p0, p1, p2, p3, p4, p5, p6, p7)",
+            "2 0 0 0 0 0 0 3",
+            "4 not level-correct\n",
+        ),
+        (
+            "Last(p0, p1, p2, p3, p4, p5, p6, p7)",
+            "4 4 4 4 2 3 1 3",
+            "3 temporal\n",
+        ),
+        (
+            "Some(a, b, c, d, e, f, g, h)",
+            "a=0 b=2 c=4 d=state e=1 f=transition g=0 h=0",
+            "2 transition\n",
+        ),
+        ("p7 /\\ p0", "2 0 0 0 0 0 0 1", "2 transition\n"),
+    ] {
+        let levels: Vec<&str> = levels.split(' ').collect();
+        let told = run(&[&words[..], &[expression], &levels].concat());
+        assert_eq!((told.status, told.text()), (0, reply), "{expression}");
+    }
+    let call = "All(a, b, x, x, x, x, x, x)";
+    let asked = [
+        "level",
+        "samples/parameters-8.tla",
+        "Calls",
+        call,
+        "a=2",
+        "b=3",
+    ];
+    let told = run(&asked);
+    assert_eq!((told.status, told.text()), (0, "4 not level-correct\n"));
+    let said = "action and temporal do not mix in All: a has level 2, b has level 3";
+    assert!(told.err.contains(said), "{}", told.err);
+}
+
 #[test]
 fn bytes_and_pipes() {
     let file = sample("example.bin");
@@ -184,7 +235,12 @@ fn refused_in_words() {
         (&["99", "x"][..], 17, 0, "the file has no module n99"),
         (&["0", "x"], 17, 0, "the file has no module n0"),
         (&["Trial", "p", "p=5"], 3, 15, "the level given for p is 5"),
-        (&["Trial", "p0", "255", "0", "0", "0"], 3, 15, "is 255"),
+        (
+            &["Trial", "p0", "255", "0", "0", "0", "0", "0", "0", "0", "0"],
+            3,
+            15,
+            "is 255",
+        ),
         (&["Trial", "--hex", ""], 3, 15, "byte 0: bytes are missing"),
         (
             &["Trial", "--hex", "04 68"],
@@ -199,13 +255,19 @@ fn refused_in_words() {
             "byte 3: bytes are left over",
         ),
         (
-            &["Trial", "x", "0", "0", "0", "0"],
+            &["Trial", "x", "0", "0", "0", "0", "0", "0", "0", "0", "0"],
             5,
             15,
-            "4 parameters are given",
+            "9 parameters are given, and the limit is 8",
         ),
         (&["Trial", &deep], 5, 15, "nesting 33, and the limit is 32"),
-        (&["Trial", "F(x, x, x, x)"], 5, 15, "given 4 arguments"),
+        (
+            &["Trial", "F(x, x, x, x, x, x, x, x, x)"],
+            5,
+            15,
+            "given 9 arguments",
+        ),
+        (&["Trial", "F(x, x)"], 10, 15, "F takes 1 argument"),
         (&["Trial", "F(n77)"], 9, 15, "n77 is not known here"),
         (&["Trial", "x + ?p0"], 9, 15, "there is no parameter 0 here"),
         (
@@ -265,12 +327,15 @@ fn likeness() {
     ]);
     assert_eq!(
         alike.text(),
-        "alike\n    2  Depth:Sink       0  2\n    6  Panel:Head!Sink  0  2\n"
+        "alike\n    2  Depth:Sink       0  level 2\n    6  Panel:Head!Sink  0  level 2\n"
     );
     assert_eq!((alike.status, alike.err.as_str()), (0, ""));
     let other = run(&["alike", "samples/trial-levels.tla", "Level0", "F"]);
     assert!(other.text().starts_with("not alike\n"), "{}", other.text());
     assert_eq!(other.status, 0);
+    let same = run(&["alike", "samples/winch.tla", "Watch", "Port!Watch"]);
+    let words = "6  level 3; p0 01; p1 01234; p2, p3, p4 013; p5 012\n";
+    assert_eq!(same.text().matches(words).count(), 2, "{}", same.text());
     let missing = run(&["alike", "samples/trial-levels.tla", "0", "10"]);
     assert_eq!(missing.status, 1);
     assert!(missing
@@ -355,8 +420,9 @@ fn bodies_of_samples() {
                 let levels = vec!["0"; parameters];
                 let words = [&["level", &path, module, expression], &levels[..]].concat();
                 let level = run(&words);
-                let first = line.split(' ').nth(4).expect("levels").chars().next();
-                assert_eq!(level.text().chars().next(), first, "{stem} {number}");
+                // The second byte of the card.
+                let zero = line.split(' ').nth(4).expect("a card").chars().nth(3);
+                assert_eq!(level.text().chars().next(), zero, "{stem} {number}");
             }
         }
     }
@@ -371,7 +437,7 @@ fn examples_of_help() {
     let folders = std::iter::once(folder.to_path_buf()).chain(env::split_paths(&path));
     let path = env::join_paths(folders).expect("a path");
     let mut count = 0;
-    for command in ["level", "alike", "body", "expand"] {
+    for command in ["card", "level", "alike", "body", "expand"] {
         let help = run(&[command, "--help"]);
         let lines = help.text().lines().map(str::trim);
         for line in
@@ -387,7 +453,7 @@ fn examples_of_help() {
             count += 1;
         }
     }
-    assert_eq!(count, 12);
+    assert_eq!(count, 16);
 }
 
 #[test]

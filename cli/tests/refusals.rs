@@ -127,7 +127,7 @@ fn the_shape_of_json() {
 }
 
 /// A text, the number and place of its refusal, and pieces of what is said.
-const TEXTS: [(&str, u32, u32, &[&str]); 51] = [
+const TEXTS: [(&str, u32, u32, &[&str]); 53] = [
     ("---- MODULE M ----\nVARIABLE x\n", 4, 2, &["ends inside module M"]),
     (
         "---- MODULE M ----\n---- MODULE N ----\n",
@@ -142,16 +142,31 @@ const TEXTS: [(&str, u32, u32, &[&str]); 51] = [
         &["EXTENDS stands right after the module field"],
     ),
     (
-        "---- MODULE M ----\nD(a, b, c, d) == a\n",
+        "---- MODULE M ----\nD(a, b, c, d, e, f, g, h, i) == a\n",
         5,
         1,
-        &["a definition has 4 parameters, and the limit is 3"],
+        &["a definition has 9 parameters, and the limit is 8"],
     ),
     (
-        "---- MODULE M ----\nD(a, b, c) == a\n====\n---- MODULE N ----\nI(p) == INSTANCE M\n",
+        "---- MODULE M ----\nD(a, b, c, d, e, f) == a\n====\n---- MODULE N ----\nI(p, q, r) == INSTANCE M\n",
         5,
         4,
-        &["D has 3 parameters and the instance 1"],
+        &["D has 6 parameters and the instance 3, and the limit is 8 together"],
+    ),
+    (
+        "---- MODULE M ----\nCONSTANT K(_, _, _, _)\n====\n---- MODULE N ----\nI(p, q, r, s, t) == INSTANCE M WITH K(a, b, c, d) <- 0\n",
+        5,
+        4,
+        &[
+            "the substitute of K has 5 parameters of the instance and 4 of K",
+            "and the limit is 8 together",
+        ],
+    ),
+    (
+        "---- MODULE M ----\nTHEOREM K(1, 2, 3, 4, 5, 6, 7, 8, 9)\n",
+        5,
+        1,
+        &["an operator is given 9 arguments, and the limit is 8"],
     ),
     (
         "---- MODULE M ----\n====\n---- MODULE M ----\n",

@@ -27,11 +27,11 @@ fn listed(report: &Value) -> String {
     }
     let mut text = format!("ok {}\n", report["definitions"]);
     for card in report["cards"].as_array().expect("cards") {
-        let levels = card["levels"].as_str().expect("levels");
+        let digits = card["card"].as_str().expect("digits");
         let [number, instance, name, parameters] =
             ["number", "instance", "name", "parameters"].map(|key| &card[key]);
         text.push_str(&format!(
-            "{number} {instance} {name} {parameters} {levels}\n"
+            "{number} {instance} {name} {parameters} {digits}\n"
         ));
     }
     text

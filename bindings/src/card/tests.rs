@@ -356,20 +356,19 @@ fn in_words() {
         ("01040000000000000000000000000000", "level 4; p0 none"),
         (
             "0200030f0f0000000000000000000100",
-            "level 0; p0 0123 weighs; p1 0123 weighs; clash p0/p1",
+            "level 0; p0, p1 0123 weigh; clash p0/p1",
         ),
         (
             "03010707070f00000000000000000600",
-            "level 1; p0 012 weighs; p1 012 weighs; p2 0123 weighs; clash p0/p2, p1/p2",
+            "level 1; p0, p1 012 weigh; p2 0123 weighs; clash p0/p2, p1/p2",
         ),
         (
             "060300031f0b0b0b0700000000000000",
-            "level 3; p0 01; p1 01234; p2 013; p3 013; p4 013; p5 012",
+            "level 3; p0 01; p1 01234; p2, p3, p4 013; p5 012",
         ),
         (
             "06011c03070f0f0f0700000000032000",
-            "level 1; p0 01; p1 012; p2 0123 weighs; p3 0123 weighs; p4 0123 weighs; p5 012; \
-             any two of p2, p3, p4 clash",
+            "level 1; p0 01; p1, p5 012; p2, p3, p4 0123 weigh; any two of p2, p3, p4 clash",
         ),
     ] {
         let card = card(digits);
@@ -380,6 +379,6 @@ fn in_words() {
     let and = card("0200030f0f0000000000000000000100");
     assert_eq!(
         and.words(&names).to_string(),
-        "level 0; rope 0123 weighs; p1 0123 weighs; clash rope/p1"
+        "level 0; rope, p1 0123 weigh; clash rope/p1"
     );
 }

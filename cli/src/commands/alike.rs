@@ -3,10 +3,10 @@
 use super::choosing::chosen;
 use super::{accepted, put, put_asked, refused, refused_query, Failure, Options, Telling};
 use crate::answers::{Alike, AlikeAsked, Answer};
-use crate::archive::{self, Cards};
+use crate::archive::{self, Card};
 use crate::finding::{no_definition, Told};
 use crate::input::Input;
-use crate::json::{self, Card};
+use crate::json;
 use crate::outline::Outline;
 use crate::{Misuse, Status};
 use std::fmt::Write;
@@ -27,24 +27,30 @@ pub fn run(options: Options, path: &Path, wanted: [&String; 2]) -> Result<Status
     let query = AlikeAsked { numbers };
     match archive::alike(&input.bytes, first, second) {
         Ok(alike) => {
-            let cards = numbers.iter().filter_map(|&number| {
-                let number = number as usize;
-                card(&input, &cards, &outline, number)
-            });
-            let cards = cards.collect();
-            let answer = Alike { alike, cards };
-            match options.json {
-                true => put_asked(&input, query, Answer::Answered(answer))?,
-                false => put(text(&answer).as_bytes())?,
+            let numbers = numbers.map(|number| number as usize);
+            if options.json {
+                let each = numbers.iter().filter_map(|&number| {
+                    let definition = outline.definitions.get(number)?;
+                    Some(json::Card::new(
+                        &input,
+                        number,
+                        definition,
+                        cards.get(number)?,
+                    ))
+                });
+                let cards = each.collect();
+                put_asked(&input, query, Answer::Answered(Alike { alike, cards }))?;
+            } else {
+                put(text(&input, &outline, &cards, alike, numbers).as_bytes())?;
             }
             Ok(Status::Accepted)
         }
         Err(refusal) => {
             let missing = numbers
                 .into_iter()
-                .find(|&number| number as usize >= cards.count);
+                .find(|&number| number as usize >= cards.len());
             let told = Told {
-                finding: no_definition(missing.unwrap_or(first), cards.count),
+                finding: no_definition(missing.unwrap_or(first), cards.len()),
                 input: None,
             };
             refused_query(options, &input, query, refusal, &told)
@@ -52,26 +58,35 @@ pub fn run(options: Options, path: &Path, wanted: [&String; 2]) -> Result<Status
     }
 }
 
-fn card(input: &Input, cards: &Cards, outline: &Outline, number: usize) -> Option<Card> {
-    let definition = outline.definitions.get(number)?;
-    let entries = cards.entries(number, definition.parameters);
-    Some(json::Card::new(input, number, definition, entries))
-}
-
-/// The answer, and both with number, name, parameter count and card.
-fn text(answered: &Alike) -> String {
-    let mut text = String::from(match answered.alike {
+/// The answer, and both with number, name, parameter count and card. What the parameters are called
+/// does not matter here.
+fn text(
+    input: &Input,
+    outline: &Outline,
+    cards: &[Card],
+    alike: bool,
+    numbers: [usize; 2],
+) -> String {
+    let mut text = String::from(match alike {
         true => "alike\n",
         false => "not alike\n",
     });
-    let names = answered.cards.iter();
-    let names: Vec<String> = names
-        .map(|card| format!("{}:{}", card.module, card.written))
-        .collect();
+    let names = numbers.map(|number| {
+        let definition = outline.definitions.get(number);
+        definition.map_or_else(String::new, |each| {
+            format!(
+                "{}:{}",
+                input.module(each.module),
+                json::written(input, each)
+            )
+        })
+    });
     let width = names.iter().map(String::len).max().unwrap_or(0);
-    for (card, name) in answered.cards.iter().zip(names) {
-        let (number, parameters, levels) = (card.number, card.parameters, &card.levels);
-        let _ = writeln!(text, "  {number:>3}  {name:width$}  {parameters}  {levels}");
+    for (number, name) in numbers.into_iter().zip(names) {
+        if let Some(card) = cards.get(number) {
+            let parameters = card.parameters();
+            let _ = writeln!(text, "  {number:>3}  {name:width$}  {parameters}  {card}");
+        }
     }
     text
 }

@@ -35,7 +35,7 @@ pub fn run(options: Options, path: &Path, wanted: &str) -> Result<Status, Misuse
         }
         Err(refusal) => {
             let told = Told {
-                finding: no_definition(definition, cards.count),
+                finding: no_definition(definition, cards.len()),
                 input: None,
             };
             refused_query(options, &input, query, refusal, &told)

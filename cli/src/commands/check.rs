@@ -25,13 +25,14 @@ fn check(options: Options, quiet: bool, input: &Input) -> Result<Status, Misuse>
         Ok(cards) if options.json => put_json(&Report {
             file: name,
             verdict: Verdict::Accepted {
-                definitions: cards.count,
+                definitions: cards.len(),
                 cards: None,
             },
         })?,
         Ok(cards) => {
-            let plural = if cards.count == 1 { "" } else { "s" };
-            put(format!("{name}: accepted, {} definition{plural}\n", cards.count).as_bytes())?;
+            let count = cards.len();
+            let plural = if count == 1 { "" } else { "s" };
+            put(format!("{name}: accepted, {count} definition{plural}\n").as_bytes())?;
         }
         Err(refusal) => {
             let telling = if quiet {

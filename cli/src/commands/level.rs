@@ -3,11 +3,11 @@
 use super::{accepted, put, put_asked, refused, refused_query, Failure, Options, Telling};
 use crate::answers::{Answer, Level, LevelAsked};
 use crate::archive;
-use crate::causes::LEVELS;
 use crate::diagnostics;
 use crate::finding::{find_asked, find_level, Told};
 use crate::input::Input;
 use crate::question::{levelled, Given, Question};
+use crate::table;
 use crate::{Misuse, Status};
 use std::path::Path;
 
@@ -56,8 +56,7 @@ fn answered(
         put_asked(input, query, Answer::Answered(Level { level, why }))?;
         return Ok(Status::Accepted);
     }
-    let word = LEVELS.get(usize::from(level)).unwrap_or(&"");
-    put(format!("{level} {word}\n").as_bytes())?;
+    put(format!("{}\n", table::reply(level)).as_bytes())?;
     if let Some(Told {
         finding,
         input: Some(asked),

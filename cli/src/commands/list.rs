@@ -1,7 +1,8 @@
 //! `list`: every definition with its card.
 
+use super::choosing::parameters;
 use super::{accepted, named, put, put_json, read, refused, Failure, Options, Telling};
-use crate::archive::Cards;
+use crate::archive::Card;
 use crate::input::Input;
 use crate::json::{self, Report, Verdict};
 use crate::outline::Outline;
@@ -34,13 +35,11 @@ fn list(options: Options, names: bool, input: &Input) -> Result<Status, Misuse> 
         }
     };
     if options.json {
-        let each = outline.definitions.iter().enumerate();
-        let each = each.map(|(number, definition)| {
-            let entries = cards.entries(number, definition.parameters);
-            json::Card::new(input, number, definition, entries)
-        });
+        let each = outline.definitions.iter().zip(&cards).enumerate();
+        let each = each
+            .map(|(number, (definition, card))| json::Card::new(input, number, definition, card));
         let verdict = Verdict::Accepted {
-            definitions: cards.count,
+            definitions: cards.len(),
             cards: Some(each.collect()),
         };
         put_json(&Report {
@@ -56,34 +55,31 @@ fn list(options: Options, names: bool, input: &Input) -> Result<Status, Misuse> 
 }
 
 /// What the listing program prints.
-fn listing(cards: &Cards, outline: &Outline) -> String {
-    let mut text = format!("ok {}\n", cards.count);
-    for (number, definition) in outline.definitions.iter().enumerate() {
-        let entries = json::digits(cards.entries(number, definition.parameters));
+fn listing(cards: &[Card], outline: &Outline) -> String {
+    let mut text = format!("ok {}\n", cards.len());
+    for (number, (definition, card)) in outline.definitions.iter().zip(cards).enumerate() {
         let (instance, name) = (definition.instance, definition.name);
         let parameters = definition.parameters;
-        let _ = writeln!(text, "{number} {instance} {name} {parameters} {entries}");
+        let _ = writeln!(text, "{number} {instance} {name} {parameters} {card:x}");
     }
     text
 }
 
-/// The same with names, module by module.
-fn with_names(input: &Input, cards: &Cards, outline: &Outline) -> String {
+/// The same with names, module by module, and the cards in words.
+fn with_names(input: &Input, cards: &[Card], outline: &Outline) -> String {
     let written = outline.definitions.iter();
     let written: Vec<String> = written.map(|each| json::written(input, each)).collect();
     let width = written.iter().map(String::len).max().unwrap_or(0);
     let mut text = String::new();
     let mut module = None;
-    for (number, definition) in outline.definitions.iter().enumerate() {
+    for (number, (definition, card)) in outline.definitions.iter().zip(cards).enumerate() {
         if module.replace(definition.module) != Some(definition.module) {
             let _ = writeln!(text, "module {}", input.module(definition.module));
         }
-        let entries = json::digits(cards.entries(number, definition.parameters));
-        let (name, parameters) = (&written[number], definition.parameters);
-        let _ = writeln!(
-            text,
-            "  {number:>3}  {name:width$}  {parameters}  {entries}"
-        );
+        let (name, count) = (&written[number], definition.parameters);
+        let names = parameters(input, outline, definition);
+        let words = card.words(&names);
+        let _ = writeln!(text, "  {number:>3}  {name:width$}  {count}  {words}");
     }
     text
 }

@@ -13,7 +13,7 @@ mod list;
 mod show;
 
 use crate::answers::{Answer, Asked};
-use crate::archive::{self, Cards, Refusal};
+use crate::archive::{self, Card, Refusal};
 use crate::args::{Args, Command};
 use crate::diagnostics::{self, Colors};
 use crate::finding::{self, Told};
@@ -49,7 +49,11 @@ pub fn run(args: &Args) -> Result<Status, Misuse> {
     match &args.command {
         Command::Check { quiet, files } => check::run(options, *quiet, files),
         Command::List { names, files } => list::run(options, *names, files),
-        Command::Card { file, definition } => card::run(options, file, definition),
+        Command::Card {
+            file,
+            definition,
+            levels,
+        } => card::run(options, file, definition, levels),
         Command::Level {
             file,
             module,
@@ -116,16 +120,18 @@ fn read(options: Options, path: &Path) -> Result<Option<Input>, Misuse> {
     }
 }
 
-/// An accepted file with its definitions.
-fn accepted(input: &Input) -> Result<(Cards, Outline), Failure> {
+/// An accepted file: the cards of its definitions, and what is known of them besides.
+fn accepted(input: &Input) -> Result<(Vec<Card>, Outline), Failure> {
     let cards = archive::check(&input.bytes).map_err(Failure::Refused)?;
     let outline = Outline::of(&input.file.fields);
-    // The outline is book-keeping; the archive's count stands.
-    if outline.definitions.len() != cards.count {
+    // The outline is book-keeping; what the archive counts stands.
+    let counted = cards.iter().map(Card::parameters);
+    let outlined = outline.definitions.iter();
+    if !counted.eq(outlined.map(|each| usize::from(each.parameters))) {
         let message = format!(
-            "{}: the archive counts {} definitions, the outline {}",
+            "{}: the archive counts {} definitions, the outline {}, or others of their parameters",
             input.name,
-            cards.count,
+            cards.len(),
             outline.definitions.len()
         );
         return Err(Failure::Misuse(Misuse::Message(message)));

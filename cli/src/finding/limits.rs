@@ -1,12 +1,13 @@
 //! Cause 5: which limit is passed.
 
 use super::{Finding, Focus, Site};
+use crate::archive::MAX_PARAMETERS;
 use notation::{Expr, Field, Token};
 
 const MODULES: usize = 16;
 const DECLARATIONS: usize = 64;
 const DEFINITIONS: usize = 256;
-pub(super) const PARAMETERS: usize = 3;
+pub(super) const PARAMETERS: usize = MAX_PARAMETERS;
 const NESTING: usize = 32;
 
 impl Site<'_> {
