@@ -110,13 +110,17 @@ fn the_shape_of_json() {
     assert_eq!(
         keys(&report["cards"][0]),
         [
+            "card",
+            "clashes",
             "field",
             "instance",
-            "levels",
+            "level",
+            "masks",
             "module",
             "name",
             "number",
             "parameters",
+            "weighs",
             "written"
         ]
     );
