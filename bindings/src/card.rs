@@ -1,4 +1,5 @@
-//! Cards: what is kept of a definition's levels, and how the level at any levels of its parameters is read.
+//! Cards: what is kept of a definition's levels, and how the level at any levels of its parameters
+//! is read.
 
 use crate::{CARD, MAX_PARAMETERS};
 use std::error::Error;
@@ -7,26 +8,28 @@ use std::fmt::{self, Debug, Display, Formatter, LowerHex};
 /// The highest level; an expression that has it is not level-correct.
 const INCORRECT: u8 = 4;
 
-/// The card of one definition (paper 02, L7). Parameters are counted from 0, and bit 0 is the lowest.
+/// The card of one definition (paper 02, L7). Parameters are counted from 0, and bit 0 is the
+/// lowest.
 ///
-/// | byte | |
-/// |---|---|
-/// | 0 | the parameter count |
-/// | 1 | the level with all at 0 |
-/// | 2 | the weights: bit i is set if some taken level of parameter i, others at 0, raises the level |
-/// | 3 to 10 | a mask of levels taken per parameter: bit l is set if the parameter at l, others at 0, is not 4 |
-/// | 11 to 14 | the pairs, highest byte first: bit j(j - 1)/2 + i, for i below j, is set if one at 2 and the other at 3, others at 0, gives 4 though each alone does not |
-/// | 15 | zero |
+/// - Byte 0: the parameter count.
+/// - Byte 1: the level with all at 0.
+/// - Byte 2: the weights; bit i is set if some taken level of parameter i, others at 0, raises the
+///   level.
+/// - Bytes 3 to 10: a mask of levels taken per parameter; bit l is set if the parameter at l,
+///   others at 0, is not 4.
+/// - Bytes 11 to 14: the pairs, highest byte first; bit j(j - 1)/2 + i, for i below j, is set if
+///   one at 2 and the other at 3, others at 0, gives 4 though each alone does not.
+/// - Byte 15: zero.
 ///
-/// Unused masks and bits are 0. Equal cards mean equal levels at every vector.
+/// Unused masks and bits are 0. Equal cards mean equal levels whatever levels the parameters have.
 #[derive(Clone, Copy, PartialEq, Eq, Hash)]
 pub struct Card {
     bytes: [u8; CARD],
 }
 
 impl Card {
-    /// The card with these bytes, `None` if no card has them: a count above 8, a level above 4, or something set that is
-    /// not used.
+    /// The card with these bytes, `None` if no card has them: a count above 8, a level above 4, or
+    /// something set that is not used.
     pub fn new(bytes: [u8; CARD]) -> Option<Card> {
         let [count, level, weights, masks @ .., _, _, _, _, last] = bytes;
         let used = usize::from(count);
@@ -68,7 +71,8 @@ impl Card {
         parameter < self.parameters() && self.bytes[2] >> parameter & 1 == 1
     }
 
-    /// Bit l is set if level l is taken: 31, 15, 7, 11, 3, or 0 where nothing is; 0 of a parameter that is not there.
+    /// Bit l is set if level l is taken: 31, 15, 7, 11, 3, or 0 where nothing is; 0 of a parameter
+    /// that is not there.
     pub fn mask(&self, parameter: usize) -> u8 {
         let masks = &self.bytes[3..3 + MAX_PARAMETERS];
         masks.get(parameter).copied().unwrap_or(0)
@@ -79,7 +83,8 @@ impl Card {
         level <= INCORRECT && self.mask(parameter) >> level & 1 == 1
     }
 
-    /// Whether the two parameters, in either order, give 4 where one is at 2 and the other at 3 though each alone does not.
+    /// Whether the two parameters, in either order, give 4 where one is at 2 and the other at 3
+    /// though each alone does not.
     pub fn clash(&self, one: usize, other: usize) -> bool {
         let (i, j) = (one.min(other), one.max(other));
         i < j && j < self.parameters() && self.pairs() >> pair_bit(i, j) & 1 == 1
@@ -97,8 +102,9 @@ impl Card {
         u32::from_be_bytes([a, b, c, d])
     }
 
-    /// The level with the parameters at these levels, one for each: 4 if a level is not taken or a pair that clashes holds
-    /// a 2 and a 3; else the highest of the level with all at 0 and the levels of the parameters that weigh.
+    /// The level with the parameters at these levels, one for each: 4 if a level is not taken or a
+    /// pair that clashes holds a 2 and a 3; else the highest of the level with all at 0 and the
+    /// levels of the parameters that weigh.
     pub fn level(&self, levels: &[u8]) -> Result<u8, BadLevels> {
         self.reading(levels).map(Reading::level)
     }
@@ -137,7 +143,8 @@ impl Card {
         })
     }
 
-    /// The card in words, on one line, the parameters called by these names; where there is none, by p and the number.
+    /// The card in words, on one line, the parameters called by these names; where there is none,
+    /// by p and the number.
     pub fn words<'c>(&'c self, names: &'c [String]) -> Words<'c> {
         Words { card: self, names }
     }
@@ -155,7 +162,7 @@ pub enum Reading {
     NotTaken { parameter: usize, level: u8 },
     /// 4: two that clash, one at 2 and the other at 3.
     Clash { action: usize, temporal: usize },
-    /// The first of the parameters that weigh that has the highest level, above the level with all at 0.
+    /// The first of the parameters that weigh that has the highest level, above that with all at 0.
     Raised { parameter: usize, level: u8 },
     /// The level with all at 0: no parameter that weighs is above it.
     AsAtZero { level: u8 },
@@ -200,7 +207,8 @@ impl Display for BadLevels {
 
 impl Error for BadLevels {}
 
-/// A card in words: the level with all at 0; of each parameter the levels taken, and whether it weighs; what clashes.
+/// A card in words: the level with all at 0; of each parameter the levels taken, and whether it
+/// weighs; what clashes.
 pub struct Words<'c> {
     card: &'c Card,
     names: &'c [String],

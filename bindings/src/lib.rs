@@ -187,14 +187,14 @@ pub fn expand_packed(
     }
 }
 
-/// Checks a file: the number of its definitions, whose cards are then in the card memory, one after
-/// another ([`Card::of`] reads one).
+/// Checks a file: the number of its definitions, whose cards are then in the card memory, one
+/// after another ([`Card::of`] reads one).
 pub fn check(file: &[u8], cards: &mut [u8]) -> Result<u32, Refusal> {
     reply(check_packed(file, cards))
 }
 
-/// The level of an expression at the end of a module, from 0 to 4, with its parameters, 8 at most, at
-/// the levels given. An expression may have any length.
+/// The level of an expression at the end of a module, from 0 to 4, with its parameters, 8 at most,
+/// at the levels given. An expression may have any length.
 pub fn level(
     file: &[u8],
     cards: &mut [u8],
@@ -222,9 +222,9 @@ pub fn body(file: &[u8], cards: &mut [u8], definition: u32) -> Result<Range<usiz
     }
 }
 
-/// The expansion of an expression over so many parameters, 0 to 8, at the end of a module: the part of the
-/// output that it is written to. A refusal leaves the output as it was. An expression may have any
-/// length.
+/// The expansion of an expression over so many parameters, 0 to 8, at the end of a module: the part
+/// of the output that it is written to. A refusal leaves the output as it was. An expression may
+/// have any length.
 pub fn expand<'o>(
     file: &[u8],
     cards: &mut [u8],

@@ -71,8 +71,8 @@ fn probed(n: usize, level: &dyn Fn(&[u8]) -> u8) -> [u8; CARD] {
 
 type Level = fn(&[u8]) -> u8;
 
-/// Bodies as functions of their parameters' levels, with the digits of their cards. All masks are there, and all, some
-/// and none of the pairs.
+/// Bodies as functions of their parameters' levels, with the digits of their cards. All masks are
+/// there, and of the pairs all, some and none.
 const EXAMPLES: [(&str, usize, Level, &str); 12] = [
     ("0", 0, |_| 0, "00000000000000000000000000000000"),
     ("p'", 1, |v| prime(v[0]), "01020003000000000000000000000000"),
@@ -220,7 +220,8 @@ fn parts() {
     }
 }
 
-/// What is not there is not taken, does not weigh and clashes with nothing, however large its number.
+/// What is not there is not taken, does not weigh and clashes with nothing, however large its
+/// number.
 #[test]
 fn beyond() {
     for (body, n, _, digits) in EXAMPLES {
