@@ -20,5 +20,5 @@ EXTENDS Eight
 VARIABLE x
 Steps == All(x', x, 0, x', 1, x = 2, 3, x')                         \* 2
 Goals == Some(x, x', (x')', []x, x, x, <>x, 0)                      \* 3: b is an action under ENABLED, c is gone, faults and all
-Apart == First([]x, <>x, x', x', x, x', x', (x')')                   \* 3
+Apart == First([]x, <>x, x', x', x, x', x', (x')')                  \* 3
 ====

@@ -147,7 +147,7 @@ pub enum Command {
     },
     /// List all definitions with their cards
     List {
-        /// Write names instead of the listing program's numbers
+        /// Write names instead of the listing program's numbers, and cards in words
         #[arg(short, long)]
         names: bool,
         /// Files; standard input if there are none

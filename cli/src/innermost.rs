@@ -53,6 +53,8 @@ pub struct Innermost {
     pub whole: Part,
     pub arguments: Vec<Part>,
     pub mixed: Option<Mixed>,
+    /// The first argument that is not taken by itself.
+    pub not_taken: Option<usize>,
 }
 
 /// An action and a temporal formula in one expression.
@@ -95,10 +97,13 @@ pub fn innermost(before: &[Field], levels: &[u8], body: &Expr) -> Option<Innermo
         });
         let Some(next) = next else {
             let mixed = place.mixed(&here, &arguments);
+            let mut each = 0..arguments.len();
+            let not_taken = each.find(|&at| place.takes(head, &arguments, &[at]) == Some(false));
             return Some(Innermost {
                 whole: here,
                 arguments,
                 mixed,
+                not_taken,
             });
         };
         here = arguments[next].clone();

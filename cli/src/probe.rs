@@ -2,7 +2,7 @@
 //!
 //! The levels that a refusal speaks of are asked for in this way, so that none is worked out here.
 
-use crate::archive;
+use crate::archive::{self, MAX_PARAMETERS};
 use crate::outline::Declaration;
 use notation::{Expr, Field, File, Names, Space, Substitution, Token};
 
@@ -87,10 +87,10 @@ pub fn at_fault(
     let Ok(literal) = Expr::from_tokens(vec![Token::Literal(0)]) else {
         return false;
     };
-    let room = 3u8.saturating_sub(*parameters);
+    let room = MAX_PARAMETERS.saturating_sub(usize::from(*parameters));
     let others = declared
         .iter()
-        .filter(|each| each.name != name && each.arguments <= room);
+        .filter(|each| each.name != name && usize::from(each.arguments) <= room);
     let others = others.map(|each| Substitution {
         name: each.name,
         expression: literal.clone(),

@@ -131,7 +131,20 @@ fn the_shape_of_json() {
 }
 
 /// A text, the number and place of its refusal, and pieces of what is said.
-const TEXTS: [(&str, u32, u32, &[&str]); 53] = [
+const TEXTS: [(&str, u32, u32, &[&str]); 55] = [
+    (
+        "---- MODULE M ----\nVARIABLE x\nD(a, b, c, d) == []a /\\ d\nTHEOREM D(x, x, x, x')\n",
+        12,
+        3,
+        &["D has level 3 with its fourth argument at level 0, and x' has level 2"],
+    ),
+    (
+        "---- MODULE M ----\nCONSTANTS c, K(_, _, _, _, _)\nVARIABLE u\n====\n---- MODULE N ----\nVARIABLE x\n\
+         I(p, q, r) == INSTANCE M WITH c <- x, K(a, b, d, e, f) <- 0, u <- x\n",
+        14,
+        7,
+        &["the variable x stands for the constant c of module M"],
+    ),
     ("---- MODULE M ----\nVARIABLE x\n", 4, 2, &["ends inside module M"]),
     (
         "---- MODULE M ----\n---- MODULE N ----\n",
@@ -590,17 +603,31 @@ fn not_for_mixing() {
         ("x' ~> []x", " takes "),
         ("[[]x]_(x')", " takes "),
         ("WF_x([]x) /\\ x'", " takes "),
-        ("Primed([]x)", "the card of Primed has level 4 there"),
-        ("Enabled([]x)", "the card of Enabled has level 4 there"),
-        ("Always(x')", "the card of Always has level 4 there"),
+        (
+            "Primed([]x)",
+            "Primed does not take its argument at level 3 (temporal)",
+        ),
+        (
+            "Enabled([]x)",
+            "Enabled does not take its argument at level 3 (temporal)",
+        ),
+        (
+            "Always(x')",
+            "Always does not take its argument at level 2 (transition)",
+        ),
+        (
+            "Fifth(x, []x, x', x, x', x)",
+            "Fifth does not take its fifth argument at level 2 (transition)",
+        ),
     ] {
         let text = format!(
             "---- MODULE M ----\nVARIABLE x\nPrimed(a) == a'\nEnabled(a) == x' = 1 /\\ ENABLED a\n\
-             Always(a) == []x /\\ []a\nTHEOREM {formula}\n"
+             Always(a) == []x /\\ []a\n\
+             Fifth(a, b, c, d, e, f) == [](a = b) /\\ WF_d(c) /\\ (e ~> f)\nTHEOREM {formula}\n"
         );
         let check = run_with(&["check", "--as", "text", "-"], text.as_bytes());
         let said = format!("{}{}", check.text(), check.err);
-        assert!(said.contains("refused 12 at field 5"), "{said}");
+        assert!(said.contains("refused 12 at field 6"), "{said}");
         assert!(said.contains(reason), "{said}");
         assert!(!said.contains("mix"), "{said}");
     }

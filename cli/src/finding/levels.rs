@@ -1,6 +1,6 @@
 //! Causes 12 to 14: the levels involved, as the archive gives them.
 
-use super::writing::{piece, Slot};
+use super::writing::{piece, which, Slot};
 use super::{Finding, Focus, Site};
 use crate::causes::{self, level};
 use crate::innermost::{innermost, Innermost};
@@ -107,9 +107,7 @@ impl Site<'_> {
         };
         let taken = match inner.whole.head() {
             Token::BuiltIn(code) => causes::takes(code).map(str::to_string),
-            head => self
-                .called(head)
-                .map(|called| format!("the card of {called} has level 4 there")),
+            head => self.called(head).map(|called| not_taken(&called, inner)),
         };
         let (message, focus) = match self.written_part(slot, &inner.whole) {
             Some(written) => (
@@ -283,6 +281,19 @@ impl Site<'_> {
         finding.note(format!(
             "module {called} {reason}, so its constants may be replaced by constants only"
         ))
+    }
+}
+
+/// What an operator that is not built in does not take.
+fn not_taken(called: &str, inner: &Innermost) -> String {
+    let arguments = &inner.arguments;
+    let found = inner.not_taken.and_then(|at| {
+        let found = arguments[at].level?;
+        Some((which(&[at], arguments.len()), level(found)))
+    });
+    match found {
+        Some((argument, found)) => format!("{called} does not take its {argument} at {found}"),
+        None => format!("the card of {called} has level 4 there"),
     }
 }
 

@@ -1,7 +1,7 @@
 //! An action beside a temporal formula: in an expression (cause 12), among substitutes (cause 21).
 
 use super::levels::Substitute;
-use super::writing::{piece, Slot};
+use super::writing::{piece, which, Slot};
 use super::{Finding, Site};
 use crate::causes::level;
 use crate::innermost::{InBody, Innermost, Mixed, Part};
@@ -165,18 +165,6 @@ impl Site<'_> {
 
 fn is_junction(head: Token) -> bool {
     matches!(head, Token::BuiltIn(codes::AND | codes::OR))
-}
-
-/// Some of an operator's arguments, which are three at most.
-fn which(places: &[usize], count: usize) -> String {
-    let word = |&place: &usize| ["first", "second", "third"][place.min(2)];
-    let words: Vec<&str> = places.iter().map(word).collect();
-    match (places.len(), count) {
-        (1, 1) => "argument".to_string(),
-        (1, _) => format!("{} argument", words[0]),
-        (some, all) if some == all => "arguments".to_string(),
-        _ => format!("{} arguments", words.join(" and ")),
-    }
 }
 
 /// What may be written for an action beside a temporal formula. Before [A]_v and <<A>>_v a sign was

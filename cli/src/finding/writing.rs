@@ -1,6 +1,7 @@
 //! Expressions in the words of the field: its parameters and bound variables as they are written.
 
 use super::{Focus, Site};
+use crate::archive::MAX_PARAMETERS;
 use crate::innermost::Part;
 use notation::{codes, Expr, ExprFault, Field, File, Token};
 
@@ -20,6 +21,24 @@ impl Slot {
             parameters,
             substitution: None,
         }
+    }
+}
+
+/// As many as an operator may have arguments.
+const ORDINALS: [&str; MAX_PARAMETERS] = [
+    "first", "second", "third", "fourth", "fifth", "sixth", "seventh", "eighth",
+];
+
+/// Some of an operator's arguments.
+pub(super) fn which(places: &[usize], count: usize) -> String {
+    let words = places.iter().filter_map(|&place| ORDINALS.get(place));
+    let words: Vec<&str> = words.copied().collect();
+    match words[..] {
+        [] => "arguments".to_string(),
+        [_] if count == 1 => "argument".to_string(),
+        [one] => format!("{one} argument"),
+        _ if words.len() == count => "arguments".to_string(),
+        [ref before @ .., last] => format!("{} and {last} arguments", before.join(", ")),
     }
 }
 
@@ -102,4 +121,24 @@ fn framed(binders: &[bool], inner: Expr) -> Result<Expr, ExprFault> {
         }
         Expr::new(Token::BuiltIn(APPLIED), &[bound(literal()?)?, inner])
     })
+}
+
+#[cfg(test)]
+mod tests {
+    use super::which;
+
+    #[test]
+    fn arguments_by_place() {
+        for (places, count, words) in [
+            (&[0][..], 1, "argument"),
+            (&[0], 2, "first argument"),
+            (&[7], 8, "eighth argument"),
+            (&[0, 1], 2, "arguments"),
+            (&[0, 3], 6, "first and fourth arguments"),
+            (&[1, 4, 5], 6, "second, fifth and sixth arguments"),
+            (&[0, 1, 2, 3, 4, 5, 6, 7], 8, "arguments"),
+        ] {
+            assert_eq!(which(places, count), words);
+        }
+    }
 }
