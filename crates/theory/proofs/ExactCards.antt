@@ -1,9 +1,9 @@
 -- Short cards are exact (specs/ExactCards): the level of every term is linear, and of a linear level the card tells all.
-use mathlib.Core.Bool.{not}
+use mathlib.Core.Bool.{Bool, not}
 use mathlib.Core.List.{List, [], _∷_}
 use mathlib.Core.Logic.{_↔_}
 use mathlib.Core.Path.{_∙_, _≡_, ap, refl, subst, subst⁻¹, sym}
-use lib.Dec.{T, T-not, eqb, eqb-refl, eqb→eq, lit≤, not-T}
+use lib.Dec.{T, T-not, eqb, eqb-refl, eqb→eq, le→leb, lit≤, not-T}
 use lib.ListN.{getD, replicate, set}
 use lib.Seq.{getD-set-other, set-set}
 use native.Mathlib.Decide.{ℕ-discrete}
@@ -11,10 +11,10 @@ use Prim.Native.Nat.{_<_, _≤_, ℕ}
 use Rattle.limits.specs.Limits.{maxArity}
 use Rattle.theory.proofs.Cards.{card-bytes-low, card-count, card-length, card-same, set-vector, zeros}
 use Rattle.theory.proofs.Finite.{levels-at}
-use Rattle.theory.proofs.LabelCards.{adds-nothing, all-refused, all-taken, mask₁, nothing-taken, six-masks}
+use Rattle.theory.proofs.LabelCards.{adds-nothing, all-refused, all-taken, clash-nothing, mask₁, nothing-taken, six-masks, weighs-nothing}
 use Rattle.theory.proofs.Labels.{Label, act, act-zero}
 use Rattle.theory.proofs.Linear.{Linear, level-linear}
-use Rattle.theory.proofs.LinearProbes.{alone-probe, linear-level, mask-one, same-added, zero-probe}
+use Rattle.theory.proofs.LinearProbes.{alone-probe, clashes-two, linear-level, mask-one, same-added, weighs-one, zero-probe}
 use Rattle.theory.proofs.Lists.{getD-all}
 use Rattle.theory.proofs.NearestMask.{to-zero}
 use Rattle.theory.proofs.ReadingCards.{card-reads}
@@ -99,4 +99,10 @@ exact-cards =
       full-mask = λ n i h t.
           let lin = level-linear n t in
           (counts-nowhere n i h (levelsAt t) lin, λ c. taken-at-4 n i h (levelsAt t) lin (c .0) (c .1));
+      none-weigh = λ n t k.
+          let lin = level-linear n t in
+          let high = le→leb 2 (lin .base) (subst (λ (x : ℕ). 2 ≤ x) (zero-probe n (levelsAt t) lin) k) in (
+            λ i h. subst⁻¹ (λ (x : Bool). T (not x)) (weighs-one n (levelsAt t) lin i h) (weighs-nothing (lin .base) (lin .labels i) (lin .base-level) high),
+            λ i j h l. subst⁻¹ (λ (x : Bool). T (not x)) (clashes-two n (levelsAt t) lin i j h l) (clash-nothing (lin .base) (lin .labels i) (lin .labels j) (lin .base-level) high),
+          );
     }

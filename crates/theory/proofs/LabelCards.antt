@@ -2,7 +2,7 @@
 use mathlib.Core.Bool.{Bool, _&&_, _||_, cond, not}
 use mathlib.Core.List.{List, [], _∷_}
 use mathlib.Core.Path.{_≡_}
-use lib.Dec.{T, eqb, eqb→eq}
+use lib.Dec.{T, eqb, eqb→eq, leb}
 use Prim.Native.Nat.{ℕ}
 use Rattle.theory.proofs.Finite.{_implies_, at-level, at-levels, atLevels, modus}
 use Rattle.theory.proofs.Labels.{Label, act, at-label, atLabels}
@@ -69,6 +69,10 @@ all-taken b w h t u =
     eqb→eq (mask₁ b w) 31
     (modus same all (modus (not (eqb b 4)) (same implies all) (tried (λ b w. not (eqb b 4) implies (atLevels λ l. eqb (higher b (act w l)) b) implies eqb (mask₁ b w) 31) tt b w h) t) u)
 
+-- beside a base of 2 or more nothing weighs
+pub weighs-nothing : (b : ℕ) (w : Label) → IsLevel b → T (leb 2 b) → T (not (weight₁ b w))
+weighs-nothing b w h t = modus (leb 2 b) (not (weight₁ b w)) (tried (λ b w. leb 2 b implies not (weight₁ b w)) tt b w h) t
+
 -- Two parameters
 
 abbrev pub clash₂ : ℕ → Label → Label → Bool
@@ -98,3 +102,8 @@ clash-makes-4 b w u l k h i j m t =
   where
     p : ℕ → Label → Label → ℕ → ℕ → Bool
     p b w u l k = mixes (l ∷ k ∷ []) implies clash₂ b w u implies verdict (two b w u (l ∷ k ∷ []))
+
+-- beside a base of 2 or more no two clash
+pub clash-nothing : (b : ℕ) (w u : Label) → IsLevel b → T (leb 2 b) → T (not (clash₂ b w u))
+clash-nothing b w u h t =
+    modus (leb 2 b) (not (clash₂ b w u)) (at-label (λ u. leb 2 b implies not (clash₂ b w u)) (tried (λ b w. atLabels λ u. leb 2 b implies not (clash₂ b w u)) tt b w h) u) t

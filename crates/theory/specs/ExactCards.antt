@@ -1,5 +1,6 @@
 -- SHORT CARDS ARE EXACT (paper 02, L7), of expanded terms. Theorem `exact-cards` (proofs/ExactCards). It needs that a 2 and a 3 make 4: else [](p ∧ q) would be 3 at (2, 3), where 2
 -- is not taken for p.
+use mathlib.Core.Bool.{not}
 use mathlib.Core.List.{List, [], _∷_}
 use mathlib.Core.Logic.{_↔_}
 use mathlib.Core.Path.{_≡_}
@@ -7,7 +8,7 @@ use lib.Dec.{T, eqb}
 use lib.ListN.{length, replicate, set}
 use Prim.Native.Nat.{_<_, _≤_, ℕ}
 use Rattle.limits.specs.Limits.{cardBytes, maxArity}
-use Rattle.theory.specs.Card.{cardOf, maskOf, readCard}
+use Rattle.theory.specs.Card.{cardOf, clashes, maskOf, readCard, weighs}
 use Rattle.theory.specs.Level.{IsLevel, incorrect}
 use Rattle.theory.specs.Lists.{All, any}
 use Rattle.theory.specs.Term.{Term, level, longWay}
@@ -39,3 +40,6 @@ pub record ExactCards : Type 0 where
   pub empty-mask : (n i : ℕ) → i < n → (t : Term) → (maskOf n (levelsAt t) i ≡ 0) ↔ (level longWay (replicate n 0) t ≡ incorrect)
   pub full-mask : (n i : ℕ) → i < n → (t : Term)
       → (maskOf n (levelsAt t) i ≡ 31) ↔ (¬ (level longWay (replicate n 0) t ≡ incorrect) × ((v : List ℕ) → Vector n v → level longWay v t ≡ level longWay (set v i 0) t))
+  -- Where the level with all at 0 is 2 or more, no parameter weighs and no two clash.
+  pub none-weigh : (n : ℕ) (t : Term) → 2 ≤ level longWay (replicate n 0) t
+      → ((i : ℕ) → i < n → T (not (weighs n (levelsAt t) i))) × ((i j : ℕ) → i < j → j < n → T (not (clashes n (levelsAt t) i j)))
