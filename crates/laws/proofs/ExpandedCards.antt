@@ -1,6 +1,6 @@
 -- A card of an accepted state is the card of its definition's expanded body; so, read at levels, it says what the level is there.
 use mathlib.Core.List.{List}
-use mathlib.Core.Path.{_∙_, _≡_, ap, sym}
+use mathlib.Core.Path.{_∙_, _≡_, ap, subst⁻¹, sym}
 use lib.ListN.{length}
 use Prim.Native.Nat.{_<_, ℕ}
 use Rattle.laws.proofs.Invariant.{Good}
@@ -24,6 +24,11 @@ module _ (s : State) (good : Good s) (g : ℕ) (there : g < length (s .definitio
 
   pub card-body : card s g ≡ cardFor (paramsOf s g) (expansionOf s (nameAtParams s g))
   card-body = card-same (paramsOf s g) (cardLevel s g) (levelsAt (expansionOf s (nameAtParams s g))) card-level
+
+  -- its bytes are bytes
+  pub card-low : Within s → All (λ b. b < 256) (card s g)
+  card-low within =
+      subst⁻¹ (All (λ b. b < 256)) card-body (exact-cards .sixteen (paramsOf s g) (few-params s within g there) (expansionOf s (nameAtParams s g)) .1)
 
   module _ (within : Within s) (ρ : List ℕ) (n : length ρ ≡ paramsOf s g) (a : All IsLevel ρ) where
     pub card-holds : readCard (card s g) ρ ≡ cardLevel s g ρ
