@@ -45,7 +45,7 @@ pub record FirstAtFault (file : List ℕ) (c p : ℕ) : Type 0 where
   pub place : p ≡ length before
   pub fault : Fault (adds start before) rest c
 
--- Why a file is refused with c at p: 1, "The card memory needs 4,096 bytes in cause 1"; 2, "file empty or over its limit"; or a field at fault. "For 1, 2, 17 and 18 it is 0."
+-- Why a file is refused with c at p: 1, the memory lent is short ("The card memory needs 4,096 bytes in cause 1"); 2, "file empty or over its limit"; or a field at fault. "For 1, 2, 17 and 18 it is 0."
 pub data FileRefused (file memory : List ℕ) (c p : ℕ) : Type 0 where
   little-memory : length memory < cardMemoryBytes → c ≡ 1 → p ≡ 0 → FileRefused file memory c p
   wrong-size : cardMemoryBytes ≤ length memory → (file ≡ []) ⊎ (fileBytes < length file) → c ≡ 2 → p ≡ 0 → FileRefused file memory c p
