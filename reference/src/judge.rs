@@ -1,12 +1,13 @@
 //! Judges a file field by field; within a field the causes come in the order of the code below. That is
 //! the order of their numbers, but for cause 21: an INSTANCE is judged by 4, 5, 7 to 12, 14, 21, 16.
 
+use crate::cards::Card;
 use crate::context::{
     Declaration, Definition, Dictionary, Entity, Instance, Module, Scope, Substitute, Tables,
 };
 use crate::expressions::{Faults, Operator, Texts};
 use crate::fields::{Field, Fields, InstanceField, Written};
-use crate::levels::{self, Card, Form};
+use crate::levels::{self, Form};
 use crate::limits::Limits;
 use crate::refusal::{Cause, Refusal};
 use crate::summaries::Summaries;
@@ -225,7 +226,10 @@ impl Judge {
         let declarations = &self.tables.declarations;
         let variable = |&id: &u8| declarations[id as usize].variable;
         module.constant = !module.declared.iter().any(variable)
-            && module.order.iter().all(|&d| self.cards[d as usize][0] == 0);
+            && module
+                .order
+                .iter()
+                .all(|&d| self.cards[d as usize].at_zero() == 0);
         self.tables.modules.push(module);
     }
 
@@ -329,7 +333,7 @@ impl Judge {
             body: (body.start as u32, body.bytes.len() as u32),
             brought: None,
         });
-        refuse_if(self.cards[number][0] == 4, Cause::NotLevelCorrect)?;
+        refuse_if(self.cards[number].at_zero() == 4, Cause::NotLevelCorrect)?;
         let operator = Operator::Defined(number as u8);
         self.add(name, Entity::Operator(operator));
         Ok(())
@@ -469,7 +473,7 @@ impl Judge {
                 Substitute::Same(Operator::Declared(same)) => {
                     self.tables.declarations[same as usize].variable as u8
                 }
-                Substitute::Same(Operator::Defined(same)) => self.cards[same as usize][0],
+                Substitute::Same(Operator::Defined(same)) => self.cards[same as usize].at_zero(),
             };
             refuse_if(level == 4, Cause::NotLevelCorrect)?;
             let declaration = &self.tables.declarations[id as usize];

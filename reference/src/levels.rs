@@ -1,23 +1,11 @@
 //! Levels: straight from cards, and as forms that hold all levels of an expression at once.
 
+use crate::cards::Card;
 use crate::context::Declaration;
 use crate::expressions::{Node, Texts};
 use crate::limits::Limits;
 use crate::rows::{self, higher, Gives, Row, Takes};
 use crate::summaries::Summary;
-
-/// A card: the level for each choice of levels of up to three parameters.
-pub type Card = [u8; Limits::CARD];
-
-/// The entry of a card for these levels of the parameters.
-pub fn entry(levels: &[u8]) -> usize {
-    levels.iter().rev().fold(0, |e, &l| 5 * e + l as usize)
-}
-
-/// The number of entries in use with so many parameters.
-pub fn entries(parameters: u8) -> usize {
-    5usize.pow(parameters as u32)
-}
 
 /// Levels an expression of a module by the cards, parameters at the given levels.
 pub fn by_cards(
@@ -75,7 +63,7 @@ impl ByCards<'_> {
             }
             Node::Defined { number, count } => {
                 self.arguments(&mut levels[..count as usize]);
-                self.cards[number as usize][entry(&levels[..count as usize])]
+                self.cards[number as usize].at(&levels[..count as usize])
             }
         }
     }
@@ -103,9 +91,10 @@ pub fn declared_level(declaration: &Declaration, arguments: &[u8]) -> u8 {
 #[derive(Clone, Copy, Debug, PartialEq, Eq)]
 pub struct Form {
     base: u8,
-    weights: u8,
-    no_action: u8,
-    no_temporal: u8,
+    /// One bit a parameter, as in the two below; there are up to `Limits::SLOTS`.
+    weights: u16,
+    no_action: u16,
+    no_temporal: u16,
 }
 
 impl Form {
@@ -122,7 +111,7 @@ impl Form {
     pub fn at(&self, levels: &[u8]) -> u8 {
         let mut highest = self.base;
         for (index, &level) in levels.iter().enumerate() {
-            let has = |mask: u8| mask >> index & 1 == 1;
+            let has = |mask: u16| mask >> index & 1 == 1;
             let weighs = has(self.weights);
             let wrong = match level {
                 0 | 1 => false,
@@ -142,13 +131,7 @@ impl Form {
 
     /// The card of a definition with this form.
     pub fn card(&self, parameters: u8) -> Card {
-        let mut card = [0; Limits::CARD];
-        let count = parameters as usize;
-        for (number, level) in card[..entries(parameters)].iter_mut().enumerate() {
-            let levels = [number % 5, number / 5 % 5, number / 25].map(|l| l as u8);
-            *level = self.at(&levels[..count]);
-        }
-        card
+        Card::probed(parameters as usize, |levels| self.at(levels))
     }
 
     /// Adds what is wrong inside the other expression, whatever becomes of its level.
@@ -236,7 +219,7 @@ impl Summary for Form {
     fn apply(&self, arguments: &[Self]) -> Self {
         let mut form = Form::constant(self.base);
         for (index, argument) in arguments.iter().enumerate() {
-            let has = |mask: u8| mask >> index & 1 == 1;
+            let has = |mask: u16| mask >> index & 1 == 1;
             if has(self.weights | self.no_action | self.no_temporal) {
                 form.need(argument);
             }

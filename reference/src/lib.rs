@@ -3,7 +3,9 @@
 
 #![forbid(unsafe_code)]
 
+mod cards;
 mod context;
+mod exact_cards;
 mod expansion;
 mod expressions;
 mod fields;
@@ -22,6 +24,7 @@ mod summaries;
 #[cfg(test)]
 mod tests;
 
+pub use exact_cards::{exact_cards, vectors, Compared, Exactness, Inexact};
 pub use judge::Rules;
 pub use limits::Limits;
 pub use listing::listing;

@@ -13,16 +13,16 @@ impl Limits {
     /// Most definitions of a file.
     pub const DEFINITIONS: usize = 256;
     /// Most parameters or arguments of an operator.
-    pub const PARAMETERS: usize = 3;
+    pub const PARAMETERS: usize = 8;
     /// Deepest nesting of a written expression.
     pub const NESTING: usize = 32;
     /// Bytes of one card.
-    pub const CARD: usize = 125;
+    pub const CARD: usize = 16;
     /// Bytes of card memory that a caller has to lend.
     pub const CARDS: usize = Self::CARD * Self::DEFINITIONS;
     /// Longest expansion, in bytes.
     pub const EXPANSION: usize = 65_535;
     /// Most parameters of a piece of text read inside instances: those of the instances around
-    /// it (at most 3, since they bring a definition) and the arguments of a substitute (at most 3).
+    /// it (at most 8, since they bring a definition) and the arguments of a substitute (at most 8).
     pub const SLOTS: usize = 2 * Self::PARAMETERS;
 }

@@ -1,7 +1,6 @@
 //! The text of the listing program.
 
 use crate::judge::Program;
-use crate::levels;
 use std::io::{self, Write};
 
 /// The listing of a file: its definitions with their cards, or the refusal.
@@ -22,7 +21,9 @@ fn print(file: &[u8], text: &mut Vec<u8>) -> io::Result<()> {
         let (instance, name) = (definition.instance, definition.name);
         let parameters = definition.parameters;
         write!(text, "{number} {instance} {name} {parameters} ")?;
-        text.extend(card[..levels::entries(parameters)].iter().map(|l| b'0' + l));
+        for byte in card.bytes() {
+            write!(text, "{byte:02x}")?;
+        }
         text.push(b'\n');
     }
     Ok(())

@@ -12,7 +12,7 @@ use crate::refusal::{Cause, Refusal};
 /// Checks a file and fills the cards.
 ///
 /// The reply is the number of definitions, and their cards are written. A refusal 1 leaves the
-/// card memory as it was, any other refusal sets its first 32,000 bytes to 0.
+/// card memory as it was, any other refusal sets its first 4,096 bytes to 0.
 pub fn check(file: &[u8], cards: &mut [u8]) -> Result<u32, Refusal> {
     accept(file, cards).map(|program| program.cards.len() as u32)
 }
@@ -53,10 +53,8 @@ pub fn expand(
 pub fn alike(file: &[u8], cards: &mut [u8], a: u32, b: u32) -> Result<u32, Refusal> {
     let program = accept(file, cards)?;
     let (a, b) = (program.known(a)?, program.known(b)?);
-    let definitions = &program.tables.definitions;
-    let same = definitions[a].parameters == definitions[b].parameters
-        && program.cards[a] == program.cards[b];
-    Ok(same as u32)
+    // A card holds the parameter count.
+    Ok((program.cards[a] == program.cards[b]) as u32)
 }
 
 /// Where the body of a definition begins in the file, and its length; for a brought definition
@@ -146,7 +144,7 @@ fn accept(file: &[u8], cards: &mut [u8]) -> Result<Program, Refusal> {
     match Program::judge(file) {
         Ok(program) => {
             for (lent, card) in cards.chunks_exact_mut(Limits::CARD).zip(&program.cards) {
-                lent.copy_from_slice(card);
+                lent.copy_from_slice(card.bytes());
             }
             Ok(program)
         }

@@ -3,10 +3,9 @@
 
 use crate::context::{Declaration, Tables, Target};
 use crate::expressions::{Node, Operator, Texts};
-use crate::limits::Limits;
 use crate::rows::{self, Row};
 
-/// A fact about expressions over up to `Limits::SLOTS` parameters.
+/// A fact about expressions over up to `Limits::SLOTS` parameters (`crate::limits`).
 pub trait Summary: Copy {
     fn parameter(index: usize) -> Self;
     /// A variable whose binder gives it this level.
@@ -79,6 +78,7 @@ impl<S: Summary> Summaries<S> {
             world,
             at: text as usize,
             binders: Vec::new(),
+            arguments: Vec::new(),
         };
         walk.expression()
     }
@@ -116,6 +116,8 @@ struct Walk<'a, S> {
     at: usize,
     /// Levels given by the binders around, the nearest last.
     binders: Vec<u8>,
+    /// The arguments read so far of the operators around, the nearest's last.
+    arguments: Vec<S>,
 }
 
 impl<S: Summary> Walk<'_, S> {
@@ -136,42 +138,43 @@ impl<S: Summary> Walk<'_, S> {
     }
 
     fn built_in(&mut self, row: &Row) -> S {
-        let mut arguments = [S::literal(); Limits::PARAMETERS];
-        let count = row.arguments as usize;
-        for (index, argument) in arguments[..count].iter_mut().enumerate() {
+        let first = self.arguments.len();
+        for index in 0..row.arguments as usize {
             let binds = row.binds_in(index);
             self.binders.extend(binds);
-            *argument = self.expression();
+            self.argument();
             if binds.is_some() {
                 self.binders.pop();
             }
         }
-        S::built_in(row, &arguments[..count])
+        let summary = S::built_in(row, &self.arguments[first..]);
+        self.arguments.truncate(first);
+        summary
+    }
+
+    fn argument(&mut self) {
+        let argument = self.expression();
+        self.arguments.push(argument);
     }
 
     fn call(&mut self, operator: Operator, count: usize) -> S {
         let target = self.tables.target(self.world, operator);
-        match target {
-            Target::Declared(id) => {
-                let mut arguments = [S::literal(); Limits::PARAMETERS];
-                for argument in &mut arguments[..count] {
-                    *argument = self.expression();
-                }
-                let declaration = &self.tables.declarations[id as usize];
-                S::declared(declaration, &arguments[..count])
+        let prefix = match target {
+            Target::Declared(_) => 0,
+            Target::Defined { prefix, .. } | Target::Substitute { prefix, .. } => prefix,
+        };
+        let first = self.arguments.len();
+        self.arguments.extend((0..prefix).map(S::parameter));
+        (0..count).for_each(|_| self.argument());
+        let arguments = &self.arguments[first..];
+        let summary = match target {
+            Target::Declared(id) => S::declared(&self.tables.declarations[id as usize], arguments),
+            _ => {
+                let called = self.summaries.of_target(self.tables, self.texts, target);
+                called.apply(arguments)
             }
-            Target::Defined { prefix, .. } | Target::Substitute { prefix, .. } => {
-                let mut arguments = [S::literal(); Limits::SLOTS];
-                for (index, argument) in arguments[..prefix].iter_mut().enumerate() {
-                    *argument = S::parameter(index);
-                }
-                for argument in &mut arguments[prefix..prefix + count] {
-                    *argument = self.expression();
-                }
-                self.summaries
-                    .of_target(self.tables, self.texts, target)
-                    .apply(&arguments[..prefix + count])
-            }
-        }
+        };
+        self.arguments.truncate(first);
+        summary
     }
 }

@@ -138,3 +138,9 @@ pub fn cards(file: &[u8]) -> Vec<u8> {
     crate::check(file, &mut cards).expect("an accepted file");
     cards
 }
+
+/// One of the cards.
+pub fn card(cards: &[u8], number: usize) -> crate::cards::Card {
+    let bytes = &cards[crate::Limits::CARD * number..][..crate::Limits::CARD];
+    crate::cards::Card::of(bytes.try_into().expect("a card's bytes"))
+}

@@ -28,7 +28,7 @@ fn wrong() -> Bytes {
 #[test]
 fn cause_1_and_2() {
     let file = [module(1), end()].concat();
-    for length in [0, 31_999] {
+    for length in [0, 4_095] {
         assert_eq!(
             check(&file, &mut vec![0; length]),
             Err(Cause::CardMemory.at(0))
@@ -198,7 +198,7 @@ fn cause_5() {
         let mut fields = vec![module(1)];
         fields.extend((0..count).map(|d| match d % 2 {
             0 => variable(d + 1),
-            _ => constant(d + 1, 3),
+            _ => constant(d + 1, 8),
         }));
         fields.push(end());
         fields
@@ -207,8 +207,17 @@ fn cause_5() {
         (modules(16), 0),
         (declarations(64), 0),
         (
-            vec![module(1), def(1, 3, op(96, &[p(0), p(1), p(2)])), end()],
+            vec![module(1), def(1, 8, op(96, &[p(0), p(1), p(7)])), end()],
             1,
+        ),
+        (
+            vec![
+                module(1),
+                constant(1, 8),
+                theorem(n(1, &vec![lit(0); 8])),
+                end(),
+            ],
+            0,
         ),
     ]);
     let bringing = |own: u16, more: u16| {
@@ -225,54 +234,57 @@ fn cause_5() {
     let d = |count| vec![module(1), def(5, count, lit(0)), end(), module(2)];
     accept(vec![
         (
-            [with(2, instance(9, 1, 1, &[(5, lit(0))])), vec![end()]].concat(),
+            [with(5, instance(9, 3, 1, &[(5, lit(0))])), vec![end()]].concat(),
             0,
         ),
-        ([d(2), vec![instance(9, 1, 1, &[]), end()]].concat(), 2),
+        ([d(5), vec![instance(9, 3, 1, &[]), end()]].concat(), 2),
+        ([d(0), vec![instance(9, 8, 1, &[]), end()]].concat(), 2),
         // A name that stands for itself is not limited so.
         (
-            [k(3), vec![constant(5, 3), instance(9, 3, 1, &[]), end()]].concat(),
+            [k(8), vec![constant(5, 8), instance(9, 8, 1, &[]), end()]].concat(),
             0,
         ),
     ]);
     expect(vec![
         (modules(17), 5, 32),
         (declarations(65), 5, 65),
-        (vec![module(1), constant(1, 4)], 5, 1),
-        (vec![module(1), def(1, 4, lit(0))], 5, 1),
-        (vec![module(1), def(1, 0, n(9, &vec![lit(0); 4]))], 5, 1),
+        (vec![module(1), constant(1, 9)], 5, 1),
+        (vec![module(1), def(1, 9, lit(0))], 5, 1),
+        (vec![module(1), def(1, 0, n(9, &vec![lit(0); 9]))], 5, 1),
         (vec![module(1), theorem(io(9, 9, &vec![lit(0); 255]))], 5, 1),
         (
-            vec![module(1), assume(n(9, &[n(9, &vec![lit(0); 4])]))],
+            vec![module(1), assume(n(9, &[n(9, &vec![lit(0); 9])]))],
             5,
             1,
         ),
         (vec![module(1), assume(wrap(32, lit(0)))], 5, 1),
-        (vec![module(1), instance(3, 4, 9, &[])], 5, 1),
+        (vec![module(1), instance(3, 9, 9, &[])], 5, 1),
         (
             vec![module(1), instance(3, 0, 9, &[(8, wrap(32, lit(0)))])],
             5,
             1,
         ),
-        (with(2, instance(9, 2, 1, &[(5, lit(0))])), 5, 4),
-        (with(1, instance(9, 3, 1, &[(5, lit(0))])), 5, 4),
-        ([d(2), vec![instance(9, 2, 1, &[])]].concat(), 5, 4),
+        (with(4, instance(9, 5, 1, &[(5, lit(0))])), 5, 4),
+        (with(8, instance(9, 1, 1, &[(5, lit(0))])), 5, 4),
+        (with(1, instance(9, 8, 1, &[(5, lit(0))])), 5, 4),
+        ([d(4), vec![instance(9, 5, 1, &[])]].concat(), 5, 4),
+        ([d(1), vec![instance(9, 8, 1, &[])]].concat(), 5, 4),
         (bringing(129, 0), 5, 132),
         (bringing(100, 57), 5, 160),
         // Before 6 to 16.
         (modules(16).into_iter().chain([module(16)]).collect(), 5, 32),
-        (vec![module(1), variable(1), constant(1, 4)], 5, 2),
+        (vec![module(1), variable(1), constant(1, 9)], 5, 2),
     ]);
     // For a module not ended k is 0, and for a name not declared there as well.
     expect(vec![
-        (vec![module(1), instance(3, 3, 9, &[(8, lit(0))])], 7, 1),
+        (vec![module(1), instance(3, 8, 9, &[(8, lit(0))])], 7, 1),
         (
-            with(3, instance(9, 3, 1, &[(6, lit(0)), (5, lit(0))])),
+            with(3, instance(9, 6, 1, &[(6, lit(0)), (5, lit(0))])),
             5,
             4,
         ),
         (
-            with(0, instance(9, 3, 1, &[(6, lit(0)), (5, lit(0))])),
+            with(0, instance(9, 8, 1, &[(6, lit(0)), (5, lit(0))])),
             11,
             4,
         ),
@@ -934,7 +946,7 @@ fn cause_16() {
 #[test]
 fn cause_17_and_18() {
     let file = [module(1), def(2, 1, and(p(0), p(0))), end()].concat();
-    let mut cards = vec![0; 32_000];
+    let mut cards = vec![0; 4_096];
     let mut out = vec![5; 70_000];
     let none = Err(Cause::NoSuch.at(0));
     assert_eq!(level(&file, &mut cards, 2, &lit(0), &[]), none);
@@ -956,8 +968,8 @@ fn cause_17_and_18() {
 fn two_faults() {
     // In one field the lower number counts, in two fields the first.
     expect(vec![
-        (vec![module(1), def(1, 4, vec![9])], 3, 1),
-        (vec![module(1), def(1, 4, n(9, &[]))], 5, 1),
+        (vec![module(1), def(1, 9, vec![9])], 3, 1),
+        (vec![module(1), def(1, 9, n(9, &[]))], 5, 1),
         (vec![module(1), variable(1), def(1, 0, wrong())], 8, 2),
         (vec![module(1), def(1, 0, prime(prime(n(9, &[]))))], 9, 1),
         (

@@ -189,7 +189,7 @@ fn instance_field(random: &mut Random, program: &Program, words: &Vocabulary) ->
     let (own, parameters) = if unnamed {
         (0, 0)
     } else {
-        (name(random), random.pick(&[0, 0, 1, 1, 2]))
+        (name(random), random.pick(&[0, 0, 0, 1, 1, 1, 2, 2, 4, 5]))
     };
     let mut with = Vec::new();
     for &id in &module.declared {
@@ -245,13 +245,17 @@ pub fn grow(random: &mut Random, judge: Judging, refused: &mut dyn FnMut(&[u8]))
             let words = Vocabulary::of(&program, current);
             let kind = random.below(100);
             let field = if kind < 22 {
-                constant(declared_name(random), random.pick(&[0, 0, 1, 1, 2, 3]))
+                constant(
+                    declared_name(random),
+                    random.pick(&[0, 0, 0, 0, 1, 1, 1, 1, 2, 2, 3, 5, 8]),
+                )
             } else if kind < 35 {
                 variable(declared_name(random))
             } else if kind < 43 {
                 def(name(random), 0, delicate(random, &words))
             } else if kind < 65 || number == 1 {
-                let parameters = random.pick(&[0, 0, 1, 1, 2, 2, 3]);
+                let parameters =
+                    random.pick(&[0, 0, 0, 0, 1, 1, 1, 1, 2, 2, 2, 2, 3, 3, 4, 5, 6, 7, 8]);
                 let deep = depth(random);
                 let body = expression(random, &words, parameters as usize, 0, deep);
                 def(name(random), parameters, body)
@@ -335,7 +339,7 @@ pub fn mixing_file(random: &mut Random) -> (Bytes, Vec<u8>) {
     let mut levels = Vec::new();
     for name in 1..=count {
         inside.extend(constant(name, 0));
-        let level = random.pick(&[0, 1, 2, 2, 2, 3, 3, 3]);
+        let level = random.pick(&[0, 1, 1, 2, 2, 3, 3]);
         levels.push(level);
         let x = || wrap(level as usize, n(X, &[]));
         let expr = match level {

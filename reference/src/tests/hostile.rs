@@ -365,42 +365,67 @@ fn lengths_at_the_limit() {
 }
 
 #[test]
-fn six_parameters() {
-    // Chain: the inner substitute has three arguments, the outer instance three parameters.
-    let file = [
+fn sixteen_parameters() {
+    // Chain: the inner substitute has eight arguments, the outer instance eight parameters.
+    let literals = |from: u16| (from..from + 8).map(lit).collect::<Vec<_>>();
+    let mut file = [
         module(1),
-        constant(1, 3),
-        def(2, 0, n(1, &[lit(1), lit(2), lit(3)])),
+        constant(1, 8),
+        def(2, 0, n(1, &literals(1))),
         end(),
         module(2),
-        constant(3, 0),
-        constant(4, 0),
-        constant(5, 0),
-        instance(
-            0,
-            0,
-            1,
-            &[(
-                1,
-                tree(6, &|i| match i {
-                    0..=2 => p(i as u8),
-                    _ => n(i as u16, &[]),
-                }),
-            )],
-        ),
-        end(),
-        module(3),
-        instance(9, 3, 2, &[(3, p(0)), (4, p(1)), (5, p(2))]),
-        end(),
     ]
     .concat();
-    assert_eq!(checked("six parameters", &file), Ok(3));
-    let query = io(9, 2, &[lit(11), lit(12), lit(13)]);
-    let expected = tree(6, &|i| match i {
-        0..=2 => lit(i as u16 + 1),
-        _ => lit(i as u16 + 8),
+    (11..19).for_each(|name| file.extend(constant(name, 0)));
+    let leaf = |i: usize| match i {
+        0..=7 => p(i as u8),
+        _ => n(i as u16 + 3, &[]),
+    };
+    file.extend(instance(0, 0, 1, &[(1, tree(16, &leaf))]));
+    let with: Vec<(u16, Bytes)> = (0..8).map(|i| (11 + i as u16, p(i))).collect();
+    file.extend([end(), module(3), instance(9, 8, 2, &with), end()].concat());
+    assert_eq!(checked("sixteen parameters", &file), Ok(3));
+    let query = io(9, 2, &literals(21));
+    let expected = tree(16, &|i| match i {
+        0..=7 => lit(i as u16 + 1),
+        _ => lit(i as u16 + 13),
     });
     assert_eq!(expanded("their expansion", &file, 3, &query), Ok(expected));
+}
+
+#[test]
+fn towers_of_eight() {
+    // Each calls the last with all its parameters, turned by one.
+    let turned: Vec<Bytes> = (0..8).map(|i| p((i + 1) % 8)).collect();
+    let all = (1..8).fold(p(0), |e, i| and(e, p(i)));
+    let mut file = [module(1), variable(500), def(1, 8, all)].concat();
+    (2..=256).for_each(|d| file.extend(def(d, 8, n(d - 1, &turned))));
+    let file = [file, end()].concat();
+    assert_eq!(checked("256 of eight parameters", &file), Ok(256));
+    let last = &cards(&file)[16 * 255..];
+    assert_eq!(last, cards(&file)[..16].to_vec());
+    assert_eq!(last[11..], [15, 255, 255, 255, 0]);
+    let call = n(256, &vec![n(500, &[]); 8]);
+    let length = expanded("the last one's expansion", &file, 1, &call).map(|e| e.len());
+    assert_eq!(length, Ok(7 * 2 + 8 * 4));
+    // Each has the last in an argument of the last.
+    let mut file = [module(1), def(1, 8, and(p(3), p(4)))].concat();
+    for d in 2..=256 {
+        let both = [
+            p(0),
+            p(1),
+            p(2),
+            p(3),
+            n(d - 1, &[p(0), p(1), p(2), p(3), p(4), p(5), p(6), p(7)]),
+        ];
+        let arguments: Vec<Bytes> = both.into_iter().chain((5..8).map(p)).collect();
+        file.extend(def(d, 8, n(d - 1, &arguments)));
+    }
+    let file = [file, end()].concat();
+    assert_eq!(checked("256 doubling", &file), Ok(256));
+    let call = n(256, &vec![lit(0); 8]);
+    let long = expanded("the last one's expansion", &file, 1, &call);
+    assert_eq!(long, Err(Cause::TooLong.at(0)));
 }
 
 #[test]

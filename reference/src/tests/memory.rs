@@ -36,21 +36,21 @@ fn marked(length: usize) -> Vec<u8> {
 
 fn filled(length: usize) -> Vec<u8> {
     let mut cards = marked(length);
-    cards[..250].fill(0);
-    cards[..5].copy_from_slice(&[2, 2, 4, 4, 4]);
-    cards[125] = 1;
+    cards[..32].fill(0);
+    cards[..4].copy_from_slice(&[1, 2, 0, 3]);
+    cards[17] = 1;
     cards
 }
 
 fn zeroed(length: usize) -> Vec<u8> {
     let mut cards = marked(length);
-    cards[..32_000].fill(0);
+    cards[..4_096].fill(0);
     cards
 }
 
 #[test]
 fn check_outcomes() {
-    for length in [32_000, 32_001, 40_000] {
+    for length in [4_096, 4_097, 32_000] {
         let mut cards = marked(length);
         assert_eq!(check(&accepted(), &mut cards), Ok(2));
         assert_eq!(cards, filled(length));
@@ -67,7 +67,7 @@ fn check_outcomes() {
         assert_eq!(check(&mixed_substitutes(), &mut cards), refusal);
         assert_eq!(cards, zeroed(length));
     }
-    for length in [0, 1, 31_999] {
+    for length in [0, 1, 4_095] {
         let mut cards = marked(length);
         assert_eq!(check(&accepted(), &mut cards), Err(Cause::CardMemory.at(0)));
         assert_eq!(check(&[], &mut cards), Err(Cause::CardMemory.at(0)));
@@ -86,13 +86,26 @@ fn query_outcomes() {
         (1, prime(n(2, &[])), vec![], Ok(2)),
         (1, prime(p(0)), vec![4], Ok(4)),
         (1, prime(p(1)), vec![4, 1, 3], Ok(2)),
+        (1, prime(p(7)), vec![4, 3, 2, 4, 3, 2, 4, 1], Ok(2)),
+        (1, and(p(6), p(7)), vec![4, 4, 4, 4, 4, 4, 2, 3], Ok(4)),
         (7, vec![], vec![9], Err(Cause::NoSuch.at(0))),
         (0, lit(0), vec![], Err(Cause::NoSuch.at(0))),
         (1, vec![], vec![], place(Cause::Layout)),
         (1, vec![4, 104], vec![], place(Cause::Layout)),
         (1, lit(0), vec![5], place(Cause::Layout)),
-        (1, lit(0), vec![0, 0, 0, 5], place(Cause::Layout)),
-        (1, lit(0), vec![0, 0, 0, 4], place(Cause::Limit)),
+        (
+            1,
+            lit(0),
+            vec![0, 0, 0, 0, 0, 0, 0, 0, 5],
+            place(Cause::Layout),
+        ),
+        (
+            1,
+            lit(0),
+            vec![0, 0, 0, 0, 0, 0, 0, 0, 4],
+            place(Cause::Limit),
+        ),
+        (1, lit(0), vec![0; 300], place(Cause::Limit)),
         (1, deep.clone(), vec![], place(Cause::Limit)),
         (1, n(9, &[deep, lit(0)]), vec![], place(Cause::Limit)),
         (1, p(0), vec![], place(Cause::Unknown)),
@@ -102,23 +115,23 @@ fn query_outcomes() {
         (1, n(3, &[]), vec![], place(Cause::ArgumentCount)),
     ];
     for (module, expr, levels, reply) in cases {
-        let mut cards = marked(32_100);
+        let mut cards = marked(4_196);
         assert_eq!(level(&file, &mut cards, module, &expr, &levels), reply);
-        assert_eq!(cards, filled(32_100));
-        let mut cards = marked(32_100);
+        assert_eq!(cards, filled(4_196));
+        let mut cards = marked(4_196);
         let refused = level(&broken, &mut cards, module, &expr, &levels);
         assert_eq!(refused, Err(Cause::ModuleNameUsed.at(5)));
-        assert_eq!(cards, zeroed(32_100));
+        assert_eq!(cards, zeroed(4_196));
         let mut cards = marked(100);
         let refused = level(&file, &mut cards, module, &expr, &levels);
         assert_eq!(refused, Err(Cause::CardMemory.at(0)));
         assert_eq!(cards, marked(100));
-        if levels.iter().all(|&l| l <= 4) {
-            let mut cards = marked(32_100);
+        if levels.iter().all(|&l| l <= 4) && levels.len() < 256 {
+            let mut cards = marked(4_196);
             let mut out = marked(1000);
             let count = levels.len() as u8;
             let got = expand(&file, &mut cards, module, &expr, count, &mut out);
-            assert_eq!(cards, filled(32_100));
+            assert_eq!(cards, filled(4_196));
             match reply {
                 Ok(_) => assert_eq!(
                     out,
@@ -143,20 +156,20 @@ fn definition_outcomes() {
         (0, 2, none),
         (u32::MAX, 0, none),
     ] {
-        let mut cards = marked(32_100);
+        let mut cards = marked(4_196);
         assert_eq!(alike(&file, &mut cards, a, b), reply);
-        assert_eq!(cards, filled(32_100));
+        assert_eq!(cards, filled(4_196));
     }
-    let mut cards = marked(32_100);
+    let mut cards = marked(4_196);
     assert_eq!(body(&file, &mut cards, 1), Ok((26, 4)));
     assert_eq!(body(&file, &mut cards, 2), Err(Cause::NoSuch.at(0)));
-    assert_eq!(cards, filled(32_100));
+    assert_eq!(cards, filled(4_196));
 }
 
 #[test]
 fn packed_replies() {
     let file = accepted();
-    let mut cards = marked(32_000);
+    let mut cards = marked(4_096);
     assert_eq!(packed_check(&file, &mut cards), 2);
     assert_eq!(packed_check(&file[..21], &mut cards), 0x8003_0003);
     assert_eq!(packed_check(&file, &mut [0; 10]), 0x8001_0000);

@@ -1,6 +1,7 @@
 //! Tests.
 
 mod build;
+mod cards;
 mod causes;
 mod gen;
 mod hostile;

@@ -4,9 +4,10 @@
 use super::build::*;
 use super::gen::{self, Random, Vocabulary};
 use crate::context::{Substitute, Tables};
+use crate::exact_cards::vectors;
 use crate::expressions::{Node, Operator};
 use crate::judge::Program;
-use crate::levels::{declared_level, entries, entry};
+use crate::levels::declared_level;
 use crate::long_way::LongWay;
 use crate::{check, expand, level, rows, staying_lawful, staying_lawful_by};
 use crate::{Cause, Limits, Refusal, Rules, Seen};
@@ -84,7 +85,7 @@ impl Book<'_> {
                     number = found.expect("brought with the rest") as u8;
                 }
                 let levels = [before, arguments].concat();
-                self.program.cards[number as usize][entry(&levels)]
+                self.program.cards[number as usize].at(&levels)
             }
             Operator::Declared(id) => {
                 let Some((&instance, outer)) = chain.split_first() else {
@@ -104,9 +105,9 @@ impl Book<'_> {
     }
 }
 
-fn vector(number: usize, count: usize) -> Vec<u8> {
-    let all = [number % 5, number / 5 % 5, number / 25];
-    all[..count].iter().map(|&level| level as u8).collect()
+/// Any levels for so many parameters.
+fn any_levels(random: &mut Random, count: usize) -> Vec<u8> {
+    (0..count).map(|_| random.below(5) as u8).collect()
 }
 
 #[derive(Debug, Default)]
@@ -114,6 +115,8 @@ struct Tally {
     definitions: usize,
     brought: usize,
     chained: usize,
+    /// Of more than three parameters.
+    wide: usize,
     entries: usize,
     long: usize,
     fours: usize,
@@ -132,19 +135,24 @@ fn compare_cards(program: &Program, way: &LongWay, tally: &mut Tally) {
             tally.chained += source.brought.is_some() as usize;
         }
         let tree = way.definition(number);
-        for place in 0..entries(count) {
-            let levels = vector(place, count as usize);
-            let card = program.cards[number][place];
-            assert_eq!(card, book.definition(number, &levels));
+        tally.wide += (count > 3) as usize;
+        for levels in vectors(count as usize) {
+            let card = program.cards[number].at(levels);
+            assert_eq!(card, book.definition(number, levels));
             tally.entries += 1;
             tally.fours += (card == 4) as usize;
             if let Some(tree) = tree {
-                assert_eq!(card, way.level(tree, &levels));
+                assert_eq!(card, way.level(tree, levels));
                 tally.long += 1;
             }
         }
-        let unused = &program.cards[number][entries(count)..];
-        assert!(unused.iter().all(|&byte| byte == 0));
+        let bytes = program.cards[number].bytes();
+        assert_eq!((bytes[0], bytes[15]), (count, 0));
+        assert!(bytes[3 + count as usize..11].iter().all(|&mask| mask == 0));
+        assert_eq!(bytes[2] as u32 >> count, 0);
+        let pairs = u32::from_be_bytes(bytes[11..15].try_into().expect("four bytes"));
+        let count = count as u32;
+        assert_eq!(pairs >> (count * (count.max(1) - 1) / 2), 0);
     }
 }
 
@@ -155,7 +163,7 @@ fn compare_queries(file: &[u8], random: &mut Random, tally: &mut Tally) {
         let module = program.tables.modules[index].name;
         for _ in 0..3 {
             let words = Vocabulary::of(&program, &program.tables.modules[index]);
-            let count = random.below(4);
+            let count = random.pick(&[0, 1, 2, 3, 4, 6, 8]);
             let deep = random.below(6);
             let expr = gen::expression(random, &words, count, 0, deep);
             let text = program
@@ -166,7 +174,7 @@ fn compare_queries(file: &[u8], random: &mut Random, tally: &mut Tally) {
                 continue;
             };
             for _ in 0..6 {
-                let levels = vector(random.below(125), count);
+                let levels = any_levels(random, count);
                 let long = way.level(&tree, &levels);
                 assert_eq!(program.level(text, &levels), long);
                 let reply = level(file, &mut cards, module, &expr, &levels);
@@ -223,7 +231,7 @@ fn refused(file: &[u8], seen: &mut [usize; 22]) {
     let mut cards = vec![0xEE; Limits::CARDS + 10];
     let refusal = match check(file, &mut cards) {
         Ok(count) => {
-            assert!(cards[125 * count as usize..].iter().all(|&b| b == 0xEE));
+            assert!(cards[16 * count as usize..].iter().all(|&b| b == 0xEE));
             return;
         }
         Err(refusal) => refusal,
@@ -257,10 +265,10 @@ fn damage_query(file: &[u8], random: &mut Random) -> Option<u32> {
     let module = random.below(program.tables.modules.len());
     let module = &program.tables.modules[module];
     let words = Vocabulary::of(&program, module);
-    let count = random.below(4);
+    let count = random.pick(&[0, 1, 2, 3, 5, 8]);
     let expr = gen::expression(random, &words, count, 0, 4);
     let expr = damaged(&expr, random);
-    let levels = vector(random.below(125), count);
+    let levels = any_levels(random, count);
     let mut cards = vec![0; Limits::CARDS];
     let mut out = vec![0xEE; Limits::EXPANSION];
     let reply = level(file, &mut cards, module.name, &expr, &levels);
@@ -296,6 +304,7 @@ fn cards_the_long_way_and_by_the_book() {
     assert!(tally.definitions > 10_000);
     assert!(tally.brought > 5_000);
     assert!(tally.chained > 800);
+    assert!(tally.wide > 3_000);
     assert!(tally.long * 10 > tally.entries * 9);
     assert!(tally.fours * 20 > tally.entries);
     assert!(tally.expansions > 10_000);
@@ -355,7 +364,8 @@ fn brought_levels() {
         let tables = &program.tables;
         for (number, definition) in tables.definitions.iter().enumerate() {
             if let Some((_, source)) = definition.brought {
-                let (here, there) = (program.cards[number][0], program.cards[source as usize][0]);
+                let level = |number: usize| program.cards[number].at_zero();
+                let (here, there) = (level(number), level(source as usize));
                 assert!(here <= there && (here, there) != (2, 3));
                 lower += (here < there) as usize;
             }
@@ -396,7 +406,8 @@ fn mixed_substitutes() {
         let way = LongWay::new(&program, FUEL);
         compare_cards(&program, &way, &mut tally);
         let highest = levels.iter().copied().max();
-        assert!(program.cards.iter().all(|card| Some(card[0]) <= highest));
+        let at_zero = || program.cards.iter().map(|card| card.at_zero());
+        assert!(at_zero().all(|level| Some(level) <= highest));
         lawful += 1;
     }
     println!("{tally:?} {mixed} {lawful}");
@@ -484,10 +495,9 @@ fn long_way_by_number() {
     ]
     .concat();
     let cards = cards(&file);
-    for place in 0..25 {
-        let levels = vector(place, 2);
-        let long = crate::long_way_definition(&file, 1, &levels, 100);
-        assert_eq!(long, Some(Ok(cards[125 + place] as u32)));
+    for levels in vectors(2) {
+        let long = crate::long_way_definition(&file, 1, levels, 100);
+        assert_eq!(long, Some(Ok(card(&cards, 1).at(levels) as u32)));
     }
     assert_eq!(crate::long_way_definition(&file, 1, &[0, 0], 1), None);
     let none = crate::long_way_definition(&file, 2, &[0, 0], 100);

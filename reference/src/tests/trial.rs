@@ -36,7 +36,10 @@ fn listing_example() {
         0x01, 0x00, 0x02, 0x00, 0x01, 0x04, 0x00, 0x02, 0x00, 0x02, 0x05, 0x00, 0x07, 0x00, 0x03,
         0x01, 0x04, 0x70, 0x00, 0x00, 0x07, 0x00, 0x00,
     ];
-    assert_eq!(listing(&file), b"ok 1\n0 0 3 1 22444\n");
+    assert_eq!(
+        listing(&file),
+        b"ok 1\n0 0 3 1 01020003000000000000000000000000\n"
+    );
     assert_eq!(listing(&file[..22]), b"refused 3 3\n");
     assert_eq!(listing(&file[..20]), b"refused 4 3\n");
     assert_eq!(listing(&[]), b"refused 2 0\n");
@@ -61,8 +64,11 @@ fn listing_of_instances() {
     ]
     .concat();
     // In the substitute of the named instance, parameter 0 is the instance's own.
-    let text = "ok 4\n0 0 7 1 01234\n1 0 7 1 01234\n2 9 7 2 0123401234012340123401234\n\
-                3 0 10 0 1\n";
+    let text = "ok 4\n\
+                0 0 7 1 0100010f000000000000000000000000\n\
+                1 0 7 1 0100010f000000000000000000000000\n\
+                2 9 7 2 0200010f1f0000000000000000000000\n\
+                3 0 10 0 00010000000000000000000000000000\n";
     assert_eq!(listing(&file), text.as_bytes());
 }
 
@@ -94,20 +100,16 @@ fn starred_lines() {
 #[test]
 fn cards_of_the_trial_file() {
     let cards = cards(&trial_file());
-    assert_eq!(&cards[..6], [0; 6]);
-    let g: Vec<u8> = (0..25)
-        .map(|entry| {
-            let (a, b) = (entry % 5, entry / 5);
-            let taken = |level| matches!(level, 0 | 1 | 3);
-            if taken(a) && taken(b) {
-                3
-            } else {
-                4
-            }
-        })
-        .collect();
-    assert_eq!(&cards[125..150], g);
-    assert!(cards[150..].iter().all(|&byte| byte == 0));
+    // F drops its parameter: every level is taken, none weighs. G takes 0, 1 and 3 for each, and is 3.
+    assert_eq!(
+        cards[..16],
+        [1, 0, 0, 31, 0, 0, 0, 0, 0, 0, 0, 0, 0, 0, 0, 0]
+    );
+    assert_eq!(
+        cards[16..32],
+        [2, 3, 0, 11, 11, 0, 0, 0, 0, 0, 0, 0, 0, 0, 0, 0]
+    );
+    assert!(cards[32..].iter().all(|&byte| byte == 0));
 }
 
 #[test]
@@ -120,7 +122,7 @@ fn module_n() {
     assert_eq!(verdict(&mixed), Err((12, 3)));
     // Without the transition it is lawful, and so is every instance.
     let first = with(always(n(K, &[u(), always(u())])));
-    assert_eq!(cards(&first)[0], 3);
+    assert_eq!(cards(&first)[1], 3);
     for substitute in [p(0), p(1), and(p(0), p(1))] {
         let other = [
             module(9),
@@ -130,7 +132,7 @@ fn module_n() {
         ];
         let file = [first.clone(), other.concat()].concat();
         assert_eq!(verdict(&file), Ok(2));
-        assert_eq!(cards(&file)[125], 3);
+        assert_eq!(cards(&file)[17], 3);
     }
 }
 
@@ -197,14 +199,15 @@ fn declared_operators_do_not_mix() {
             end(),
         ];
         let cards = cards(&file.concat());
-        let (card, other) = (&cards[..125], &cards[125..250]);
-        assert_eq!(card, other);
-        assert_eq!(
-            (card[2 + 5 * 3], card[3 + 5 * 2], card[3 + 5 * 3]),
-            (4, 4, 3)
-        );
-        assert_eq!((card[2 + 5 * 2], card[1 + 5 * 3]), (2, 3));
-        assert_eq!((cards[250 + 3 + 5 * 3], cards[250 + 2 + 5 * 3]), (3, 4));
+        assert_eq!(cards[..16], cards[16..32]);
+        let read = |number: usize, a, b| {
+            let mut levels = vec![0; count as usize];
+            (levels[0], levels[1]) = (a, b);
+            card(&cards, number).at(&levels)
+        };
+        assert_eq!((read(0, 2, 3), read(0, 3, 2), read(0, 3, 3)), (4, 4, 3));
+        assert_eq!((read(0, 2, 2), read(0, 1, 3)), (2, 3));
+        assert_eq!((read(2, 3, 3), read(2, 2, 3)), (3, 4));
     }
     let file = [
         module(1),
@@ -260,7 +263,7 @@ fn a_variable_for_a_constant() {
     .concat();
     let lawful = [inner(Bytes::new()).concat(), outer.clone()].concat();
     assert_eq!(verdict(&lawful), Ok(2));
-    assert_eq!(cards(&lawful)[125], 1);
+    assert_eq!(cards(&lawful)[17], 1);
     let unlawful = [inner(variable(X)).concat(), outer].concat();
     assert_eq!(verdict(&unlawful), Err((14, 7)));
 }
