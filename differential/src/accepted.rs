@@ -237,7 +237,7 @@ impl<'a> Grower<'a> {
             fields: Vec::new(),
             bytes: Vec::new(),
             model: Model::default(),
-            cards: vec![0; crate::model::CARDS],
+            cards: vec![0; crate::cards::CARDS],
             refused: Vec::new(),
             depth,
             width: if size < 8_000 { NARROW } else { 50 },
@@ -264,7 +264,7 @@ impl<'a> Grower<'a> {
             self.calm = calm && module < modules;
             if module == 1 {
                 for name in 1..=3 {
-                    let count = self.random.pick(&[0, 0, 1, 2]);
+                    let count = self.random.pick(&[0, 0, 0, 1, 1, 2, 2, 5]);
                     self.propose(Field::Constant(name, count), LIMIT);
                 }
                 if !self.calm {
@@ -452,7 +452,11 @@ impl<'a> Grower<'a> {
         match self.random.below(100) {
             0..=16 => {
                 let name = self.declared_name();
-                Field::Constant(name, self.random.pick(&[0, 0, 0, 1, 1, 2, 3]))
+                let count = match self.random.below(8) {
+                    0 => self.wide(),
+                    _ => self.random.pick(&[0, 0, 0, 1, 1, 2, 3]),
+                };
+                Field::Constant(name, count)
             }
             17..=27 if !self.calm => Field::Variable(self.declared_name()),
             28..=32 if !self.calm => self.delicate(),
@@ -474,8 +478,16 @@ impl<'a> Grower<'a> {
         }
     }
 
+    /// More parameters or arguments than a few.
+    fn wide(&mut self) -> u8 {
+        self.random.pick(&[4, 5, 6, 7, 8])
+    }
+
     fn definition(&mut self) -> Field {
-        let parameters = self.random.pick(&[0, 0, 1, 1, 2, 2, 3]);
+        let parameters = match self.random.below(8) {
+            0 => self.wide(),
+            _ => self.random.pick(&[0, 0, 1, 1, 2, 2, 3]),
+        };
         let depth = self.depth();
         let most = if self.calm {
             0
@@ -508,7 +520,7 @@ impl<'a> Grower<'a> {
 
     /// A definition with a parameter below binders, so that what is put in has to be moved.
     fn binding(&mut self) -> Field {
-        let parameters = self.random.pick(&[1, 1, 2, 3]);
+        let parameters = self.random.pick(&[1, 1, 2, 3, 7]);
         let mut body = self.expression(parameters as usize, 1, 2);
         for _ in 0..1 + self.random.below(3) {
             let index = syntax::p(self.random.below(parameters as usize) as u8);
@@ -524,10 +536,13 @@ impl<'a> Grower<'a> {
 
     /// A definition that takes its parameters at some levels only, or not together.
     fn masked(&mut self) -> Field {
-        let parameters = self.random.pick(&[2, 2, 3]);
+        let parameters = match self.random.below(3) {
+            0 => self.wide(),
+            _ => self.random.pick(&[2, 2, 3]),
+        };
         let index = |random: &mut Random| syntax::p(random.below(parameters as usize) as u8);
         let mut inner = syntax::and(syntax::p(0), index(self.random));
-        for _ in 0..self.random.below(3) {
+        for _ in 0..self.random.below(1 + parameters as usize) {
             let other = self.random.pick(&[lit(1), prime(lit(2)), always(lit(3))]);
             let other = if self.random.chance(60) {
                 index(self.random)
@@ -598,6 +613,7 @@ impl<'a> Grower<'a> {
         let module = self.model.modules[of].clone();
         let (name, parameters) = match self.random.below(100) {
             0..=54 => (0, 0),
+            55..=60 => (self.name(), self.wide()),
             _ => (self.name(), self.random.pick(&[0, 0, 1, 1, 2, 3])),
         };
         let mut with = Vec::new();

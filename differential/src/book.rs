@@ -1,19 +1,20 @@
-//! A second judge of what hangs on levels, as plain as can be: every entry of every card worked out by
-//! itself, and the causes 12, 13, 14, 16 and 21. The other causes of a file do not hang on levels, so the
+//! A second judge of what hangs on levels, as plain as can be: every level that a card is probed at worked out
+//! by itself, and the causes 12, 13, 14, 16 and 21. The other causes of a file do not hang on levels, so the
 //! reference is asked for them with all levels taken out. The rules may be misread on purpose.
 
 use crate::accepted::LARGEST;
-use crate::model::{Meaning, Model, Module, Operator, Scope, CARDS};
+use crate::cards::{self, CARD, CARDS, MOST};
+use crate::model::{Meaning, Model, Module, Operator, Scope};
 use crate::rows;
 use crate::syntax::{self, Expr, Field};
 use std::rc::Rc;
 
-/// Most parameters of a written substitute, the instance's and the operator's.
-const SLOTS: usize = 6;
+/// Room for the parameters of a written substitute, the instance's and the operator's.
+const SLOTS: usize = 2 * MOST;
 
 const ENABLED: u8 = 113;
 
-/// A wrong reading of request L5 or L6.
+/// A wrong reading of request L5, L6 or L7.
 #[derive(Clone, Copy, Debug, PartialEq, Eq)]
 pub enum Misreading {
     /// Of a 2 and a 3 the highest is 3.
@@ -28,7 +29,7 @@ pub enum Misreading {
     NotInBinders,
     /// What stands below ENABLED mixes with what stands beside it.
     ThroughEnabled,
-    /// A card has one ceiling for each parameter: an entry is the highest of what each gives alone.
+    /// A card has one ceiling for each parameter: no pair is set.
     OneCeiling,
     /// A level query takes 3 for the highest of a 2 and a 3.
     NotInQueries,
@@ -70,6 +71,32 @@ pub enum Misreading {
     ThreeStays,
     /// One that is 4 with the instance's parameters at 2 is refused.
     BroughtOverParameters,
+    /// A mask has every level up to the highest one taken.
+    MaskIsCeiling,
+    /// A mask never has 4, of a parameter that is not used either.
+    FourNeverTaken,
+    /// Parameters that there are not have full masks.
+    MasksBeyond,
+    /// Whatever is used weighs, though it does not raise the level.
+    WeighsIfUsed,
+    /// A 4 raises the level too, though it is not taken.
+    FourWeighs,
+    /// The first parameter has the highest bit of the weights.
+    WeightsTurned,
+    /// A pair is looked at with 2 for the first and 3 for the second only.
+    ActionFirst,
+    /// With 3 for the first and 2 for the second only.
+    TemporalFirst,
+    /// It has to give 4 both ways round.
+    BothWays,
+    /// It is set though one alone gives 4 already.
+    PairsThoughAlone,
+    /// Pairs are numbered by the first of the two.
+    PairsByRow,
+    /// The pairs are written with their low byte first.
+    PairsLowFirst,
+    /// The parameter count is the last byte, and the first is zero.
+    CountLast,
 }
 
 /// Where levels meet.
@@ -113,11 +140,6 @@ pub struct Book {
     pub model: Model,
     texts: Vec<Text>,
     instances: Vec<Instance>,
-}
-
-/// Where an entry stands in a card.
-fn entry(levels: &[u8]) -> usize {
-    levels.iter().rev().fold(0, |e, &l| 5 * e + l as usize)
 }
 
 /// The file with every level at 0 and of the same names and counts. What is left are the causes 2 to 11
@@ -216,7 +238,7 @@ impl Book {
         };
         let holds = |place: usize, original: usize| {
             let number = last.start + place;
-            let (own, brought) = (self.model.card(original)[0], self.model.card(number)[0]);
+            let (own, brought) = (self.model.at_zero(original), self.model.at_zero(number));
             match self.misreading {
                 Some(
                     Misreading::FifteenFirst | Misreading::BroughtAsBody | Misreading::ByOutcome,
@@ -229,7 +251,7 @@ impl Book {
                     let count = self.model.definitions[number].parameters as usize;
                     let mut levels = vec![0; count];
                     levels[..last.parameters].fill(2);
-                    self.model.card(number)[entry(&levels)] == 4
+                    cards::read(self.model.card(number), &levels) == 4
                 }
                 _ => false,
             }
@@ -263,7 +285,7 @@ impl Book {
         self.model.add(field);
         (first..self.texts.len()).for_each(|number| self.fill(number));
         match field {
-            Field::Definition(..) => (self.model.card(first)[0] == 4).then_some(12),
+            Field::Definition(..) => (self.model.at_zero(first) == 4).then_some(12),
             Field::Assume(formula) | Field::Theorem(formula) => {
                 match self.at_zero(formula, &scope) {
                     4 => Some(12),
@@ -378,22 +400,9 @@ impl Book {
     /// Works out the card of a definition.
     fn fill(&mut self, number: usize) {
         let count = self.model.definitions[number].parameters as usize;
-        for place in 0..5usize.pow(count as u32) {
-            let all = [place % 5, place / 5 % 5, place / 25].map(|level| level as u8);
-            let levels = &all[..count];
-            let level = match self.misreading {
-                Some(Misreading::OneCeiling) => {
-                    let alone = (0..count).map(|at| {
-                        let mut alone = vec![0; count];
-                        alone[at] = levels[at];
-                        self.definition(number, &alone)
-                    });
-                    alone.max().unwrap_or_else(|| self.definition(number, &[]))
-                }
-                _ => self.definition(number, levels),
-            };
-            self.model.cards[125 * number + place] = level;
-        }
+        let level = |levels: &[u8]| self.definition(number, levels);
+        let card = cards::write(count, self.misreading, level);
+        self.model.cards[CARD * number..][..CARD].copy_from_slice(&card);
     }
 
     fn definition(&self, number: usize, levels: &[u8]) -> u8 {
@@ -481,7 +490,7 @@ impl Book {
                     start + place.expect("brought with the rest")
                 };
                 let number = chain.iter().fold(number, brought);
-                self.model.card(number)[entry(&all)]
+                cards::read(self.model.card(number), &all)
             }
             (Meaning::Variable(_), None) => 1,
             (Meaning::Constant(_), None) => self.highest(Meeting::Declared, given),
@@ -547,8 +556,8 @@ mod tests {
             let Some(Ok(book)) = judge(&file, Some(Misreading::NoMixing)) else {
                 panic!("accepted by the misreading");
             };
-            assert_eq!(book.model.card(0)[0], 3);
-            assert_eq!(book.model.card(1)[0], brought);
+            assert_eq!(book.model.at_zero(0), 3);
+            assert_eq!(book.model.at_zero(1), brought);
         }
     }
 }

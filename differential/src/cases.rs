@@ -1,5 +1,6 @@
 //! One call of a checker with all the memory it is lent, and what comes back.
 
+use crate::cards::CARDS;
 use crate::checker::{body_refusal, refusal, Checker, Offer};
 use crate::syntax::{self, hex, Expr};
 use std::fmt::{self, Display, Formatter};
@@ -105,7 +106,7 @@ pub struct Kind {
 }
 
 fn pattern(length: usize, fill: u8) -> Vec<u8> {
-    // Neither a level nor 0, and not the same everywhere.
+    // No byte of a card but a full one, and not the same everywhere.
     let byte = |at: usize| 0x80 | (at as u8).wrapping_mul(29).wrapping_add(fill);
     (0..length).map(byte).collect()
 }
@@ -115,7 +116,7 @@ impl Case {
         Case {
             file: file.to_vec(),
             call,
-            cards: 32_000,
+            cards: CARDS,
             fill: 0,
         }
     }

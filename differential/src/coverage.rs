@@ -1,5 +1,6 @@
 //! Counts of what occurred in a run, and what has to occur.
 
+use crate::cards::{self, CARDS, MOST};
 use crate::cases::{Call, Case, Outcome};
 use crate::checker::Offer;
 use crate::faults;
@@ -7,10 +8,11 @@ use crate::lawful::{self, MOVES};
 use crate::limits;
 use crate::mixed_substitutes;
 use crate::mixing;
-use crate::model::{Meaning, Model, Module, Operator, Scope};
+use crate::model::{Definition, Meaning, Model, Module, Operator, Scope};
 use crate::rows;
 use crate::substitutes;
 use crate::syntax::{Expr, Field};
+use crate::wide;
 use reference::Seen;
 use std::collections::{BTreeMap, BTreeSet};
 use std::fmt::{self, Display, Formatter};
@@ -26,6 +28,10 @@ pub enum Section {
     Mixing,
     MixedSubstitutes,
     Lawful,
+    /// What has four to eight parameters or arguments.
+    Wide,
+    /// Masks, weights and pairs of the cards of accepted files.
+    Card,
     /// What the second opinion on lawful instances looked at.
     Staying,
     Query,
@@ -51,7 +57,7 @@ pub struct Coverage {
     pub refused: u64,
 }
 
-const CONSTRUCTS: [&str; 84] = [
+const CONSTRUCTS: [&str; 116] = [
     "module",
     "module with nothing",
     "EXTENDS",
@@ -63,16 +69,31 @@ const CONSTRUCTS: [&str; 84] = [
     "CONSTANT of 1",
     "CONSTANT of 2",
     "CONSTANT of 3",
+    "CONSTANT of 4",
+    "CONSTANT of 5",
+    "CONSTANT of 6",
+    "CONSTANT of 7",
+    "CONSTANT of 8",
     "VARIABLE",
     "definition of 0",
     "definition of 1",
     "definition of 2",
     "definition of 3",
+    "definition of 4",
+    "definition of 5",
+    "definition of 6",
+    "definition of 7",
+    "definition of 8",
     "INSTANCE unnamed",
     "INSTANCE named, 0 parameters",
     "INSTANCE named, 1 parameters",
     "INSTANCE named, 2 parameters",
     "INSTANCE named, 3 parameters",
+    "INSTANCE named, 4 parameters",
+    "INSTANCE named, 5 parameters",
+    "INSTANCE named, 6 parameters",
+    "INSTANCE named, 7 parameters",
+    "INSTANCE named, 8 parameters",
     "INSTANCE that brings nothing",
     "INSTANCE twice over",
     "INSTANCE three times over",
@@ -87,6 +108,11 @@ const CONSTRUCTS: [&str; 84] = [
     "written for an operator of 1",
     "written for an operator of 2",
     "written for an operator of 3",
+    "written for an operator of 4",
+    "written for an operator of 5",
+    "written for an operator of 6",
+    "written for an operator of 7",
+    "written for an operator of 8",
     "written over instance parameters",
     "written with a binder",
     "itself, a constant for a constant",
@@ -110,6 +136,18 @@ const CONSTRUCTS: [&str; 84] = [
     "I!F",
     "I!F with arguments",
     "I!F with instance parameters",
+    "I!F with 4 to 7 arguments",
+    "I!F with 8 arguments",
+    "name with 4 arguments",
+    "name with 5 arguments",
+    "name with 6 arguments",
+    "name with 7 arguments",
+    "name with 8 arguments",
+    "definition brought, 4 parameters",
+    "definition brought, 5 parameters",
+    "definition brought, 6 parameters",
+    "definition brought, 7 parameters",
+    "definition brought, 8 parameters",
     "literal",
     "dropped argument",
     "dropped argument at level 4",
@@ -138,11 +176,12 @@ const CONSTRUCTS: [&str; 84] = [
     "256 definitions",
 ];
 
-const QUERIES: [&str; 50] = [
+const QUERIES: [&str; 57] = [
     "check",
-    "card memory under 32,000",
+    "card memory under 4,096",
+    "card memory of 4,096",
+    "card memory over 4,096",
     "card memory of 32,000",
-    "card memory over 32,000",
     "query of a refused file",
     "level",
     "level replies 0",
@@ -155,8 +194,13 @@ const QUERIES: [&str; 50] = [
     "level over 2",
     "level over 3",
     "level over 4",
+    "level over 5",
+    "level over 6",
+    "level over 7",
+    "level over 8",
+    "level over 9",
     "level given above 4",
-    "level given above 4 among four",
+    "level given above 4 among nine",
     "level given 4",
     "level given 2 and 3 replies 4",
     "level given 2 and 3 replies less",
@@ -167,7 +211,8 @@ const QUERIES: [&str; 50] = [
     "level refused 17",
     "expand",
     "expand over parameters",
-    "expand over 4",
+    "expand over 4 to 8",
+    "expand over 9",
     "expand, exact room",
     "expand, one byte short",
     "expand, one byte more",
@@ -212,6 +257,9 @@ pub fn required(asked: Offer) -> Vec<(Section, String)> {
     all.extend(substitutes.map(|label| (Section::MixedSubstitutes, label)));
     let lawful = lawful::labels().into_iter();
     all.extend(lawful.map(|label| (Section::Lawful, label)));
+    let wide = wide::labels().into_iter();
+    all.extend(wide.map(|label| (Section::Wide, label)));
+    all.extend(of_cards().into_iter().map(|label| (Section::Card, label)));
     let staying = looked_at(&Seen::default()).into_iter();
     all.extend(staying.map(|(what, _)| (Section::Staying, what)));
     if asked > Offer::Checks {
@@ -221,6 +269,26 @@ pub fn required(asked: Offer) -> Vec<(Section, String)> {
         });
         all.extend(kinds.map(|what| (Section::Query, what.to_string())));
     }
+    all
+}
+
+/// Masks of a parameter that there is.
+const MASKS: [u8; 5] = [31, 15, 11, 7, 3];
+
+/// What has to occur among the cards of accepted files.
+fn of_cards() -> Vec<String> {
+    let mut all: Vec<String> = (0..=MOST)
+        .map(|count| format!("parameters {count}"))
+        .collect();
+    for at in 0..MOST {
+        all.extend(MASKS.map(|mask| format!("mask {mask} of parameter {at}")));
+        all.push(format!("weight of parameter {at}"));
+        all.push(format!("no weight of parameter {at}, though it is used"));
+    }
+    all.extend(cards::pairs(MOST).map(|(first, second)| format!("pair {first}, {second}")));
+    all.push("pair with 2 for the first only".into());
+    all.push("pair with 3 for the first only".into());
+    all.push("all 28 pairs".into());
     all
 }
 
@@ -292,9 +360,10 @@ impl Coverage {
             self.count(Section::Cause, cause.to_string());
         }
         self.query(match case.cards {
-            0..=31_999 => "card memory under 32,000",
+            0..CARDS => "card memory under 4,096",
+            CARDS => "card memory of 4,096",
             32_000 => "card memory of 32,000",
-            _ => "card memory over 32,000",
+            _ => "card memory over 4,096",
         });
         if case.call == Call::Check {
             return self.query("check");
@@ -319,10 +388,10 @@ impl Coverage {
                 if above {
                     self.query("level given above 4");
                 }
-                if above && levels.len() > 3 {
-                    self.query("level given above 4 among four");
+                if above && levels.len() > MOST {
+                    self.query("level given above 4 among nine");
                 }
-                if levels.len() <= 4 {
+                if levels.len() <= MOST + 1 {
                     self.query(&format!("level over {}", levels.len()));
                 }
                 if levels.contains(&4) {
@@ -350,7 +419,8 @@ impl Coverage {
                 match params {
                     0 => (),
                     1..=3 => self.query("expand over parameters"),
-                    _ => self.query("expand over 4"),
+                    4..=8 => self.query("expand over 4 to 8"),
+                    _ => self.query("expand over 9"),
                 }
                 if *room == 0 {
                     self.query("expand, no room");
@@ -439,17 +509,60 @@ impl Coverage {
 
     fn card(&mut self, model: &Model, number: usize) {
         let card = model.card(number);
-        self.construct(&format!("definition at {}", card[0].min(3)));
-        if model.definitions[number].parameters < 2 {
+        self.construct(&format!("definition at {}", card[1].min(3)));
+        let Definition {
+            parameters, chain, ..
+        } = model.definitions[number];
+        if parameters > 3 && chain > 0 {
+            self.construct(&format!("definition brought, {parameters} parameters"));
+        }
+        self.parts(card);
+        if parameters < 2 {
             return;
         }
         // What the first two parameters give at 2 and 3: 4 though each alone is taken; or 3, the second's
         // own, though the first is not dropped.
-        let (action, temporal, both) = (card[2], card[5 * 3], card[2 + 5 * 3]);
-        match (action, temporal, both) {
+        let mut levels = vec![0; parameters as usize];
+        let mut at = |first, second| {
+            (levels[0], levels[1]) = (first, second);
+            cards::read(card, &levels)
+        };
+        match (at(2, 0), at(0, 3), at(2, 3)) {
             (..=3, ..=3, 4) => self.construct("card that mixes at (2, 3)"),
-            (_, 3, 3) if card[4] == 4 => self.construct("card that takes (2, 3)"),
+            (_, 3, 3) if at(4, 0) == 4 => self.construct("card that takes (2, 3)"),
             _ => (),
+        }
+    }
+
+    /// Counts masks, weights and pairs of a card.
+    fn parts(&mut self, card: &[u8]) {
+        let count = card[0] as usize;
+        let (masks, bits) = (&card[3..11], cards::pair_bits(card));
+        self.count(Section::Card, format!("parameters {count}"));
+        for (at, mask) in masks[..count].iter().enumerate() {
+            self.count(Section::Card, format!("mask {mask} of parameter {at}"));
+            match (card[2] >> at & 1, mask) {
+                (1, _) => self.count(Section::Card, format!("weight of parameter {at}")),
+                (_, 31) => (),
+                _ => self.count(
+                    Section::Card,
+                    format!("no weight of parameter {at}, though it is used"),
+                ),
+            }
+        }
+        for (bit, (first, second)) in cards::pairs(count).enumerate() {
+            if bits >> bit & 1 == 0 {
+                continue;
+            }
+            self.count(Section::Card, format!("pair {first}, {second}"));
+            match (masks[first], masks[second]) {
+                (7, _) => self.count(Section::Card, "pair with 2 for the first only"),
+                (_, 7) => self.count(Section::Card, "pair with 3 for the first only"),
+                _ => (),
+            }
+        }
+        if bits == 0x0FFF_FFFF {
+            self.count(Section::Card, "all 28 pairs");
         }
     }
 
@@ -582,7 +695,7 @@ impl Coverage {
         if mentions(expr, &|e| matches!(e, Expr::BuiltIn(128.., _))) {
             self.construct("written with a binder");
         }
-        let zeros = [0; 6];
+        let zeros = [0; 2 * MOST];
         let level = model.level(scope, expr, &zeros, &mut Vec::new());
         if module.constant && declared.count == 0 && (1..=3).contains(&level) {
             self.construct(&format!(
@@ -628,6 +741,10 @@ impl Coverage {
             }
             Expr::Name(name, _) => {
                 called = scope.operator(*name);
+                if expr.arguments().len() > 3 {
+                    let count = expr.arguments().len();
+                    self.construct(&format!("name with {count} arguments"));
+                }
                 if let Some(operator) = called {
                     self.construct(match (operator.meaning, operator.count) {
                         (Meaning::Constant(_), 0) => "declared constant",
@@ -646,8 +763,11 @@ impl Coverage {
             Expr::Brought(instance, name, arguments) => {
                 called = scope.brought(*instance, *name);
                 self.construct("I!F");
-                if !arguments.is_empty() {
-                    self.construct("I!F with arguments");
+                match arguments.len() {
+                    0 => (),
+                    4..MOST => self.construct("I!F with 4 to 7 arguments"),
+                    MOST => self.construct("I!F with 8 arguments"),
+                    _ => self.construct("I!F with arguments"),
                 }
                 if scope.instance(*instance).is_some_and(|i| i.parameters > 0) {
                     self.construct("I!F with instance parameters");
@@ -657,7 +777,7 @@ impl Coverage {
         for (at, argument) in expr.arguments().iter().enumerate() {
             if called.is_some_and(|operator| model.drops(operator, at)) {
                 self.construct("dropped argument");
-                let (zeros, mut binders) = ([0; 6], vec![0; 32]);
+                let (zeros, mut binders) = ([0; 2 * MOST], vec![0; 32]);
                 if model.level(scope, argument, &zeros, &mut binders) == 4 {
                     self.construct("dropped argument at level 4");
                 }
@@ -703,7 +823,12 @@ impl Display for Coverage {
         let count = |cause: u32| self.get(Section::Cause, &cause.to_string());
         let causes = CAUSES.map(|cause| format!("{cause}: {}", count(cause)));
         writeln!(f, "refusals by cause: {}", causes.join(", "))?;
-        for section in [Section::Construct, Section::Staying, Section::Query] {
+        for section in [
+            Section::Construct,
+            Section::Card,
+            Section::Staying,
+            Section::Query,
+        ] {
             let counts = self.section(section);
             writeln!(f, "{section:?}, {} kinds:", counts.len())?;
             for (what, count) in counts {
@@ -717,6 +842,7 @@ impl Display for Coverage {
             Section::Mixing,
             Section::MixedSubstitutes,
             Section::Lawful,
+            Section::Wide,
         ] {
             let counts = self.section(section);
             let fewest = counts.iter().map(|(_, count)| count).min().unwrap_or(&0);

@@ -1,6 +1,7 @@
 //! Realistic files, and families of files and queries that are small on paper and huge in meaning.
 
 use crate::accepted::LARGEST;
+use crate::cards::CARDS;
 use crate::cases::Call;
 use crate::checker::Checker;
 use crate::expansions;
@@ -29,7 +30,7 @@ pub struct Memory {
 impl Default for Memory {
     fn default() -> Self {
         Memory {
-            cards: vec![0; 32_000],
+            cards: vec![0; CARDS],
             out: vec![0; 70_000],
         }
     }

@@ -404,18 +404,18 @@ impl<'a> Site<'a> {
             }
             Kind::Constant => {
                 let count = if has(5) {
-                    self.random.pick(&[4, 5, 255])
+                    self.random.pick(&[9, 10, 255])
                 } else {
-                    self.random.below(4) as u8
+                    self.count()
                 };
                 Field::Constant(name, count)
             }
             Kind::Variable => Field::Variable(name),
             Kind::Definition => {
-                let mut parameters = self.random.below(4) as u8;
+                let mut parameters = self.count();
                 let mut inside = causes.to_vec();
                 if has(5) && self.random.chance(50) {
-                    parameters = self.random.pick(&[4, 5, 255]);
+                    parameters = self.random.pick(&[9, 10, 255]);
                     inside.retain(|&cause| cause != 5);
                 }
                 Field::Definition(name, parameters, self.formula(&inside, parameters))
@@ -425,6 +425,11 @@ impl<'a> Site<'a> {
             Kind::Assume => Field::Assume(self.formula(causes, 0)),
             Kind::Theorem => Field::Theorem(self.formula(causes, 0)),
         }
+    }
+
+    /// A lawful number of parameters or arguments.
+    fn count(&mut self) -> u8 {
+        self.random.pick(&[0, 1, 2, 3, 4, 6, 8])
     }
 
     fn unknown(&mut self, parameters: u8) -> Expr {
@@ -457,7 +462,9 @@ impl<'a> Site<'a> {
             n(k, &[lit(0)]),
             n(k, &[]),
             n(k, &[lit(0), lit(1), lit(2)]),
+            n(k, &vec![lit(0); 8]),
             n(f, &[]),
+            brought(i, boxed, &vec![lit(1); 8]),
             brought(i, boxed, &[lit(0)]),
         ];
         self.random.pick(&choices)
@@ -465,13 +472,13 @@ impl<'a> Site<'a> {
 
     fn over_limit(&mut self) -> Expr {
         let (k, i, boxed) = (self.name(K), self.name(I), self.name(BOX));
-        let four = vec![lit(0); 4];
+        let nine = vec![lit(0); 9];
         let choices = [
             wrap(32, lit(0)),
             wrap(31, and(lit(0), wrap(1, lit(0)))),
             wrap(100, lit(1)),
-            n(k, &four),
-            brought(i, boxed, &four),
+            n(k, &nine),
+            brought(i, boxed, &nine),
             n(k, &vec![lit(1); 255]),
         ];
         self.random.pick(&choices)
@@ -537,7 +544,7 @@ impl<'a> Site<'a> {
         let unnamed = (lawful_unnamed || clashing_unnamed) && self.random.chance(50);
         let (name, mut own) = match unnamed {
             true => (0, 0),
-            false => (name, self.random.below(2) as u8),
+            false => (name, self.random.pick(&[0, 0, 1, 1, 5, 6])),
         };
         let mut over = has(5).then(|| self.random.below(4));
         // Without a module nothing is known of its operators and definitions.
@@ -545,9 +552,9 @@ impl<'a> Site<'a> {
             over = Some(2);
         }
         match over {
-            Some(0) => own = self.random.pick(&[4, 200]),
+            Some(0) => own = self.random.pick(&[9, 200]),
             // With the operator's own arguments or the definition's.
-            Some(1) => own = 3,
+            Some(1) => own = self.random.pick(&[7, 8]),
             _ => (),
         }
         let mut with = Vec::new();

@@ -1,10 +1,12 @@
 //! The reference with a fault put in, to try the comparison out.
 
 use crate::book::{self, Book, Misreading};
+use crate::cards::{CARD, CARDS, MOST};
 use crate::checker::{
     body_refusal, refusal, refused, Checker, Expansions, Queries, Reference, BODY_REFUSED, REFUSED,
 };
-use crate::syntax::Expr;
+use crate::model::Model;
+use crate::syntax::{fields, Expr, Field};
 
 /// A fault that a checker could have.
 #[derive(Clone, Copy, Debug, PartialEq, Eq)]
@@ -45,8 +47,12 @@ pub enum Fault {
     PastLastCard,
     /// Short card memory is cleared.
     ShortMemoryCleared,
-    /// Card memory of exactly 32,000 bytes is too short.
+    /// Card memory of exactly 4,096 bytes is too short.
     MemoryOneMore,
+    /// Card memory of less than 32,000 bytes is too short, as before L7.
+    MemoryAsBefore,
+    /// A refusal clears 32,000 bytes, if so many are lent.
+    ZeroedAsBefore,
     /// A query's own refusal clears the cards.
     QueryClears,
     /// An unknown module or definition clears the cards.
@@ -57,8 +63,12 @@ pub enum Fault {
     OtherModule,
     /// A given level of 5 is taken for 4.
     LevelFive,
-    /// A fourth parameter is left out.
-    FourthParameter,
+    /// A ninth parameter is left out.
+    NinthParameter,
+    /// A definition of eight parameters has one too many.
+    EightRefused,
+    /// So has an INSTANCE with the definitions that it brings, if these have eight in all.
+    EightBroughtRefused,
     /// Module 0 is the first module.
     ModuleZero,
     /// An expansion needs one byte more than it has.
@@ -71,8 +81,8 @@ pub enum Fault {
     OutputPastEnd,
     /// Bound indices of an expansion are one too low.
     IndexUnmoved,
-    /// Alike looks at the cards only.
-    AlikeByCards,
+    /// Alike does not look at the pairs.
+    AlikeWithoutPairs,
     /// A definition is alike itself even if there is none.
     AlikeItself,
     /// The body of a brought definition is empty.
@@ -88,7 +98,7 @@ pub enum Fault {
 }
 
 /// Every fault with its name.
-pub const FAULTS: [(&str, Fault); 70] = [
+pub const FAULTS: [(&str, Fault); 87] = [
     ("place-next", Fault::PlaceNext),
     ("place-of-open-file", Fault::PlaceOfOpenFile),
     ("place-of-eighteen", Fault::PlaceOfEighteen),
@@ -114,19 +124,23 @@ pub const FAULTS: [(&str, Fault); 70] = [
     ("past-last-card", Fault::PastLastCard),
     ("short-memory-cleared", Fault::ShortMemoryCleared),
     ("memory-one-more", Fault::MemoryOneMore),
+    ("memory-as-before", Fault::MemoryAsBefore),
+    ("zeroed-as-before", Fault::ZeroedAsBefore),
     ("query-clears", Fault::QueryClears),
     ("unknown-clears", Fault::UnknownClears),
     ("level-fills-nothing", Fault::LevelFillsNothing),
     ("other-module", Fault::OtherModule),
     ("level-five", Fault::LevelFive),
-    ("fourth-parameter", Fault::FourthParameter),
+    ("ninth-parameter", Fault::NinthParameter),
+    ("eight-refused", Fault::EightRefused),
+    ("eight-brought-refused", Fault::EightBroughtRefused),
     ("module-zero", Fault::ModuleZero),
     ("eighteen-early", Fault::EighteenEarly),
     ("longest-refused", Fault::LongestRefused),
     ("output-on-refusal", Fault::OutputOnRefusal),
     ("output-past-end", Fault::OutputPastEnd),
     ("index-unmoved", Fault::IndexUnmoved),
-    ("alike-by-cards", Fault::AlikeByCards),
+    ("alike-without-pairs", Fault::AlikeWithoutPairs),
     ("alike-itself", Fault::AlikeItself),
     ("brought-body", Fault::BroughtBody),
     ("body-start", Fault::BodyStart),
@@ -192,6 +206,22 @@ pub const FAULTS: [(&str, Fault); 70] = [
         "15-over-parameters",
         Fault::Misread(Misreading::BroughtOverParameters),
     ),
+    ("mask-is-ceiling", Fault::Misread(Misreading::MaskIsCeiling)),
+    ("4-never-taken", Fault::Misread(Misreading::FourNeverTaken)),
+    ("masks-beyond", Fault::Misread(Misreading::MasksBeyond)),
+    ("weighs-if-used", Fault::Misread(Misreading::WeighsIfUsed)),
+    ("4-weighs", Fault::Misread(Misreading::FourWeighs)),
+    ("weights-turned", Fault::Misread(Misreading::WeightsTurned)),
+    ("pairs-2-first", Fault::Misread(Misreading::ActionFirst)),
+    ("pairs-3-first", Fault::Misread(Misreading::TemporalFirst)),
+    ("pairs-both-ways", Fault::Misread(Misreading::BothWays)),
+    (
+        "pairs-though-alone",
+        Fault::Misread(Misreading::PairsThoughAlone),
+    ),
+    ("pairs-by-row", Fault::Misread(Misreading::PairsByRow)),
+    ("pairs-low-first", Fault::Misread(Misreading::PairsLowFirst)),
+    ("count-last", Fault::Misread(Misreading::CountLast)),
 ];
 
 impl Fault {
@@ -214,7 +244,8 @@ impl Fault {
 /// The reference with one fault.
 pub struct Faulty(pub Fault);
 
-const CARDS: usize = 32_000;
+/// Bytes of card memory before L7.
+const BEFORE: usize = 32_000;
 
 /// The first module's name.
 fn first_module(file: &[u8]) -> u16 {
@@ -226,7 +257,7 @@ fn first_module(file: &[u8]) -> u16 {
 
 /// Puts a code for another in the bodies of definitions.
 fn recoded(file: &[u8], from: u8, to: u8) -> Vec<u8> {
-    use crate::syntax::{fields, file as written, Expr};
+    use crate::syntax::file as written;
     fn recode(expr: &mut Expr, from: u8, to: u8) {
         if let Expr::BuiltIn(code, _) = expr {
             if *code == from {
@@ -282,9 +313,18 @@ impl Faulty {
             }
             return None;
         }
-        if self.is(Fault::MemoryOneMore) && before.len() == CARDS {
+        let short = match self.0 {
+            Fault::MemoryOneMore => before.len() == CARDS,
+            Fault::MemoryAsBefore => before.len() < BEFORE,
+            _ => false,
+        };
+        if short {
             cards.copy_from_slice(before);
             return Some(refused(1, 0));
+        }
+        if let Some(place) = self.one_too_many(file, refusal(verdict)) {
+            cards[..CARDS].fill(0);
+            return Some(refused(5, place));
         }
         if self.is(Fault::LargestRefused) && file.len() == 32_768 {
             cards[..CARDS].fill(0);
@@ -312,10 +352,37 @@ impl Faulty {
                     cards.fill(0);
                     None
                 }
+                Fault::ZeroedAsBefore => {
+                    let cleared = BEFORE.min(cards.len());
+                    cards[..cleared].fill(0);
+                    None
+                }
                 _ => None,
             },
             None => self.spoil_cards(file, verdict as usize, before, cards),
         }
+    }
+
+    /// The first field that has eight parameters in all, if that is too many and comes before the refusal.
+    fn one_too_many(&self, file: &[u8], refusal: Option<(u32, u32)>) -> Option<u32> {
+        if !self.is(Fault::EightRefused) && !self.is(Fault::EightBroughtRefused) {
+            return None;
+        }
+        let mut model = Model::default();
+        for (number, field) in fields(file).iter().enumerate() {
+            if refusal.is_some_and(|(_, place)| place as usize <= number) {
+                return None;
+            }
+            let before = model.definitions.len();
+            model.add(field);
+            let brings = matches!(field, Field::Instance { .. });
+            let mut added = model.definitions[before..].iter();
+            let eight = added.any(|each| each.parameters as usize == MOST);
+            if eight && brings == self.is(Fault::EightBroughtRefused) {
+                return Some(number as u32);
+            }
+        }
+        None
     }
 
     fn spoil_cards(
@@ -325,21 +392,20 @@ impl Faulty {
         before: &[u8],
         cards: &mut [u8],
     ) -> Option<u32> {
-        let first = cards[..125].to_vec();
+        let first = cards[..CARD].to_vec();
         match self.0 {
-            Fault::CardCopied if count > 1 => cards[125..250].copy_from_slice(&first),
+            Fault::CardCopied if count > 1 => cards[CARD..2 * CARD].copy_from_slice(&first),
             Fault::OneCard => {
-                let filled = cards[..125 * count].chunks_exact_mut(125);
+                let filled = cards[..CARD * count].chunks_exact_mut(CARD);
                 filled.for_each(|card| card.copy_from_slice(&first));
             }
-            Fault::CardsAtZero => cards[..125 * count].fill(0),
-            Fault::PastLastCard if 125 * count < cards.len() => cards[125 * count] = 0,
+            Fault::CardsAtZero => cards[..CARD * count].fill(0),
+            Fault::PastLastCard if CARD * count < cards.len() => cards[CARD * count] = 0,
             Fault::SourceCard => {
                 // Few, since every look at a body checks the file.
                 for d in 1..count.min(30) {
                     if let Some(source) = source(file, d) {
-                        let card = cards[125 * source..125 * (source + 1)].to_vec();
-                        cards[125 * d..125 * (d + 1)].copy_from_slice(&card);
+                        cards.copy_within(CARD * source..CARD * (source + 1), CARD * d);
                     }
                 }
             }
@@ -373,7 +439,7 @@ impl Faulty {
         }
         Some(match book::judge(file, Some(misreading))? {
             Ok(book) => {
-                let used = 125 * book.model.definitions.len();
+                let used = CARD * book.model.definitions.len();
                 cards[..used].copy_from_slice(&book.model.cards[..used]);
                 Ok(book)
             }
@@ -442,7 +508,7 @@ impl Queries for Faulty {
         };
         let levels: Vec<u8> = match self.0 {
             Fault::LevelFive => levels.iter().map(|&l| if l == 5 { 4 } else { l }).collect(),
-            Fault::FourthParameter => levels.iter().copied().take(3).collect(),
+            Fault::NinthParameter => levels.iter().copied().take(MOST).collect(),
             _ => levels.to_vec(),
         };
         let reply = Reference.level(file, cards, module, expr, &levels);
@@ -467,8 +533,8 @@ impl Queries for Faulty {
         let file = &self.seen(file)[..];
         let accepted = Self::accepts(file, cards);
         let mut reply = Reference.alike(file, cards, a, b);
-        if accepted && refusal(reply).is_none() && self.is(Fault::AlikeByCards) {
-            let card = |d: u32| &cards[125 * d as usize..125 * (d as usize + 1)];
+        if accepted && refusal(reply).is_none() && self.is(Fault::AlikeWithoutPairs) {
+            let card = |d: u32| &cards[CARD * d as usize..][..11];
             reply = (card(a) == card(b)) as u32;
         }
         if let Some(spoilt) = self.spoil(file, &before, cards) {
@@ -543,7 +609,7 @@ impl Expansions for Faulty {
             _ => module,
         };
         let params = match self.0 {
-            Fault::FourthParameter => params.min(3),
+            Fault::NinthParameter => params.min(MOST as u8),
             _ => params,
         };
         let reply = Reference.expand(file, cards, module, expr, params, out);

@@ -5,6 +5,7 @@
 
 pub mod accepted;
 pub mod book;
+pub mod cards;
 pub mod cases;
 pub mod checker;
 pub mod coverage;
@@ -29,6 +30,7 @@ pub mod runner;
 pub mod shrink;
 pub mod substitutes;
 pub mod syntax;
+pub mod wide;
 
 use checker::{Checker, Reference};
 use faulty::{Fault, Faulty};

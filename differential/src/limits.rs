@@ -1,6 +1,7 @@
 //! Files at the limits and one step beyond them.
 
 use crate::accepted::LARGEST;
+use crate::cards::MOST;
 use crate::random::Random;
 use crate::syntax::{self, and, brought, instance, lit, n, p, tree, wrap, Expr, Field};
 
@@ -13,7 +14,7 @@ pub struct Limited {
     pub cause: Option<u32>,
 }
 
-const LABELS: [&str; 17] = [
+const LABELS: [&str; 26] = [
     "modules",
     "declarations",
     "definitions",
@@ -31,6 +32,15 @@ const LABELS: [&str; 17] = [
     "operator standing for itself",
     "bytes of a file",
     "length in a field",
+    "parameters brought twice over",
+    "parameters brought three times over",
+    "parameters brought of an extended module",
+    "parameters brought with a named instance inside",
+    "parameters of an instance over a wide substitute",
+    "arguments of a name in a formula",
+    "arguments of a name in a substitute",
+    "arguments of I!F in a dropped argument",
+    "parameters of a definition that stands for an operator",
 ];
 
 /// The number of limit files.
@@ -63,6 +73,8 @@ pub fn build(number: usize, random: &mut Random) -> Limited {
     let kind = number / 2;
     let mut fields = Vec::new();
     let mut cause = Some(5).filter(|_| over == 1);
+    let most = (MOST + over) as u8;
+    let operator = |name: u16| Field::Constant(name, MOST as u8);
     let module = |name: u16, inside: Vec<Field>| {
         let mut fields = vec![Field::Module(name)];
         fields.extend(inside);
@@ -82,7 +94,7 @@ pub fn build(number: usize, random: &mut Random) -> Limited {
             let count = 256 + over as u16;
             let define = |name: u16| match name {
                 0 => Field::Definition(1, 0, lit(0)),
-                _ => Field::Definition(1 + name, (name % 4) as u8, n(1, &[])),
+                _ => Field::Definition(1 + name, (name % 9) as u8, n(1, &[])),
             };
             fields.extend(module(1, (0..count).map(define).collect()));
         }
@@ -119,59 +131,54 @@ pub fn build(number: usize, random: &mut Random) -> Limited {
             let with = [(1, nested(32 + over, random))];
             fields.extend(module(2, vec![instance(0, 0, 1, &with)]));
         }
-        7 => fields.extend(module(1, vec![Field::Constant(1, 3 + over as u8)])),
+        7 => fields.extend(module(1, vec![Field::Constant(1, most)])),
         8 => {
-            let body = p(random.below(3) as u8);
-            let parameters = 3 + over as u8;
-            fields.extend(module(1, vec![Field::Definition(1, parameters, body)]));
+            let body = p(random.below(MOST) as u8);
+            fields.extend(module(1, vec![Field::Definition(1, most, body)]));
         }
         9 => {
             fields.extend(module(1, vec![]));
-            fields.extend(module(2, vec![instance(1, 3 + over as u8, 1, &[])]));
+            fields.extend(module(2, vec![instance(1, most, 1, &[])]));
         }
         10 => {
-            let call = n(1, &vec![lit(0); 3 + over]);
-            fields.extend(module(
-                1,
-                vec![Field::Constant(1, 3), Field::Definition(2, 0, call)],
-            ));
+            let call = n(1, &vec![lit(0); MOST + over]);
+            fields.extend(module(1, vec![operator(1), Field::Definition(2, 0, call)]));
         }
         11 => {
-            let call = brought(5, 1, &vec![lit(0); 3 + over]);
+            let call = brought(5, 1, &vec![lit(0); MOST + over]);
             fields.extend(module(1, vec![Field::Definition(1, 1, p(0))]));
             fields.extend(module(
                 2,
-                vec![instance(5, 2, 1, &[]), Field::Theorem(call)],
+                vec![instance(5, 7, 1, &[]), Field::Theorem(call)],
             ));
         }
         12 => {
-            let inner = 1 + random.below(3);
-            let own = (3 + over - inner) as u8;
-            fields.extend(module(1, vec![Field::Definition(1, inner as u8, lit(0))]));
-            fields.extend(module(2, vec![instance(5, own, 1, &[])]));
+            let inner = 1 + random.below(MOST) as u8;
+            fields.extend(module(1, vec![Field::Definition(1, inner, lit(0))]));
+            fields.extend(module(2, vec![instance(5, most - inner, 1, &[])]));
         }
         13 => {
-            let arguments = 1 + random.below(3);
-            let own = (3 + over - arguments) as u8;
-            let with = [(1, p(random.below(3) as u8))];
-            fields.extend(module(1, vec![Field::Constant(1, arguments as u8)]));
-            fields.extend(module(2, vec![instance(5, own, 1, &with)]));
+            let arguments = 1 + random.below(MOST) as u8;
+            let with = [(1, p(random.below(MOST) as u8))];
+            fields.extend(module(1, vec![Field::Constant(1, arguments)]));
+            fields.extend(module(2, vec![instance(5, most - arguments, 1, &with)]));
         }
         14 => {
-            // An operator of three arguments that stands for itself is not limited.
+            // An operator of eight arguments that stands for itself is not limited.
+            let turned: Vec<Expr> = (0..MOST as u8).rev().map(p).collect();
             fields.extend(module(
                 1,
                 vec![
-                    Field::Constant(1, 3),
-                    Field::Definition(2, 0, n(1, &[lit(0), lit(1), lit(2)])),
+                    operator(1),
+                    Field::Definition(2, 0, n(1, &vec![lit(0); MOST])),
                 ],
             ));
             fields.extend(module(
                 2,
                 vec![
-                    Field::Constant(1, 3),
-                    instance(5, 3 + over as u8, 1, &[]),
-                    Field::Definition(6, 3, brought(5, 2, &[p(2), p(1), p(0)])),
+                    operator(1),
+                    instance(5, most, 1, &[]),
+                    Field::Definition(6, MOST as u8, brought(5, 2, &turned)),
                 ],
             ));
         }
@@ -195,6 +202,96 @@ pub fn build(number: usize, random: &mut Random) -> Limited {
                 file: bytes,
                 cause: Some(2).filter(|_| over == 1),
             };
+        }
+        17 | 18 => {
+            // Brought on without a name, twice or three times, and then with parameters.
+            let times = kind as u16 - 16;
+            let inner = 1 + random.below(MOST) as u8;
+            let body = p(random.below(inner as usize) as u8);
+            fields.extend(module(1, vec![Field::Definition(1, inner, body)]));
+            for m in 2..=times + 1 {
+                let (name, own) = match m == times + 1 {
+                    true => (5, most - inner),
+                    false => (0, 0),
+                };
+                fields.extend(module(m, vec![instance(name, own, m - 1, &[])]));
+            }
+        }
+        19 => {
+            let inner = 1 + random.below(MOST) as u8;
+            fields.extend(module(1, vec![Field::Definition(1, inner, p(0))]));
+            fields.extend(module(2, vec![Field::Extends(vec![1])]));
+            fields.extend(module(3, vec![instance(5, most - inner, 2, &[])]));
+        }
+        20 => {
+            // The sum is judged before 16.
+            let (inner, between) = (1 + random.below(3) as u8, 1 + random.below(3) as u8);
+            fields.extend(module(1, vec![Field::Definition(1, inner, p(0))]));
+            fields.extend(module(2, vec![instance(5, between, 1, &[])]));
+            let own = most - inner - between;
+            fields.extend(module(3, vec![instance(6, own, 2, &[])]));
+            cause = cause.or(Some(16));
+        }
+        21 => {
+            // Inside, sixteen parameters: eight of the instance, eight of the operator's substitute.
+            let eight: Vec<Expr> = (0..MOST as u16).map(lit).collect();
+            let used = |at: usize| match at {
+                0..MOST => p(at as u8),
+                _ => n(20 + at as u16, &[]),
+            };
+            fields.extend(module(
+                1,
+                vec![operator(1), Field::Definition(2, 0, n(1, &eight))],
+            ));
+            let names = MOST as u16..2 * MOST as u16;
+            let mut inside: Vec<Field> = names
+                .clone()
+                .map(|name| Field::Constant(20 + name, 0))
+                .collect();
+            inside.push(instance(0, 0, 1, &[(1, tree(2 * MOST, &used))]));
+            fields.extend(module(2, inside));
+            let with: Vec<(u16, Expr)> = names.zip(0..).map(|(n, i)| (20 + n, p(i))).collect();
+            fields.extend(module(3, vec![instance(5, most, 2, &with)]));
+        }
+        22 => {
+            let call = n(1, &vec![lit(0); MOST + over]);
+            let call = wrap(random.below(20), call);
+            let formula = random.pick(&[Field::Assume(call.clone()), Field::Theorem(call)]);
+            fields.extend(module(1, vec![operator(1), formula]));
+        }
+        23 => {
+            let call = n(2, &vec![p(0); MOST + over]);
+            fields.extend(module(1, vec![Field::Constant(1, 2)]));
+            fields.extend(module(
+                2,
+                vec![operator(2), instance(0, 0, 1, &[(1, call)])],
+            ));
+        }
+        24 => {
+            let call = brought(5, 1, &vec![lit(0); MOST + over]);
+            fields.extend(module(1, vec![Field::Definition(1, 2, p(0))]));
+            fields.extend(module(
+                2,
+                vec![
+                    instance(5, 6, 1, &[]),
+                    Field::Definition(6, 1, lit(0)),
+                    Field::Theorem(n(6, &[call])),
+                ],
+            ));
+        }
+        25 => {
+            let body = and(p(0), p(7));
+            fields.extend(module(
+                1,
+                vec![
+                    operator(1),
+                    Field::Definition(2, 0, n(1, &vec![lit(1); MOST])),
+                ],
+            ));
+            fields.extend(module(
+                2,
+                vec![Field::Definition(1, most, body), instance(0, 0, 1, &[])],
+            ));
         }
         _ => {
             // A length of 256 or one that does not fit.

@@ -1,5 +1,6 @@
 //! What the fields of an accepted file bring, as far as a generator has to know it.
 
+use crate::cards::{self, CARD, CARDS};
 use crate::rows;
 use crate::syntax::{Expr, Field};
 
@@ -131,8 +132,6 @@ pub struct Model {
     pub cards: Vec<u8>,
 }
 
-pub const CARDS: usize = 32_000;
-
 impl Default for Model {
     fn default() -> Self {
         Model {
@@ -157,7 +156,12 @@ impl Model {
 
     /// The card of a definition.
     pub fn card(&self, number: usize) -> &[u8] {
-        &self.cards[125 * number..125 * (number + 1)]
+        &self.cards[CARD * number..][..CARD]
+    }
+
+    /// The level of a definition with parameters at 0.
+    pub fn at_zero(&self, number: usize) -> u8 {
+        self.card(number)[1]
     }
 
     /// An accepted file with its cards.
@@ -241,7 +245,7 @@ impl Model {
             Field::End => {
                 let is_variable = |o: &Operator| matches!(o.meaning, Meaning::Variable(_));
                 let constant = !scope.declared.iter().any(is_variable)
-                    && scope.order.iter().all(|&d| self.card(d)[0] == 0);
+                    && scope.order.iter().all(|&d| self.at_zero(d) == 0);
                 self.modules.push(Module {
                     name,
                     scope,
@@ -272,8 +276,8 @@ impl Model {
     /// Whether two definitions are alike, if the file has both.
     pub fn alike(&self, a: u32, b: u32) -> Option<bool> {
         let [a, b] = [a, b].map(|number| number as usize);
-        let count = |number: usize| Some(self.definitions.get(number)?.parameters);
-        Some(count(a)? == count(b)? && self.card(a) == self.card(b))
+        let known = |number: usize| number < self.definitions.len();
+        (known(a) && known(b)).then(|| self.card(a) == self.card(b))
     }
 
     /// Where the body of a definition begins in the file, and its length.
@@ -290,22 +294,14 @@ impl Model {
         match operator.meaning {
             Meaning::Constant(_) => rows::highest(levels),
             Meaning::Variable(_) => 1,
-            Meaning::Defined(number) => {
-                let weights = [1, 5, 25];
-                let entry: usize = levels
-                    .iter()
-                    .zip(weights)
-                    .map(|(&l, w)| l as usize * w)
-                    .sum();
-                self.card(number)[entry]
-            }
+            Meaning::Defined(number) => cards::read(self.card(number), levels),
         }
     }
 
     /// Whether an operator drops the argument of this number.
     pub fn drops(&self, operator: &Operator, argument: usize) -> bool {
         match operator.meaning {
-            Meaning::Defined(number) => self.card(number)[4 * [1, 5, 25][argument]] != 4,
+            Meaning::Defined(number) => cards::drops(self.card(number), argument),
             _ => false,
         }
     }

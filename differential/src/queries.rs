@@ -1,6 +1,7 @@
 //! Queries for accepted files.
 
 use crate::accepted::{Style, Writer};
+use crate::cards::{CARDS, MOST};
 use crate::cases::{Call, Case};
 use crate::damage;
 use crate::model::{Meaning, Model, Module, Operator};
@@ -17,11 +18,13 @@ pub struct Query {
 /// Card memory of some length.
 pub fn card_memory(random: &mut Random) -> usize {
     match random.below(20) {
-        0 | 1 => 31_999,
-        2 => random.below(32_000),
-        3 | 4 => 32_001,
-        5 => 32_000 + random.below(2_000),
-        _ => 32_000,
+        0 | 1 => CARDS - 1,
+        2 => random.below(CARDS),
+        3 | 4 => CARDS + 1,
+        5 => CARDS + random.below(2_000),
+        // As much as cards took before L7.
+        6 => 32_000,
+        _ => CARDS,
     }
 }
 
@@ -55,7 +58,7 @@ pub fn blind(random: &mut Random, file: &[u8]) -> Case {
         1 => Call::Expand {
             module,
             expr,
-            params: random.below(5) as u8,
+            params: random.below(MOST + 2) as u8,
             room: random.pick(&[0, 2, 3, 40]),
         },
         2 => Call::Alike {
@@ -201,14 +204,29 @@ fn bound_call(random: &mut Random, calls: &[(u16, Operator)], expr: Expr) -> Exp
     call
 }
 
+/// How many parameters a query has: up to the most, and now and then one more.
+fn parameters(random: &mut Random) -> usize {
+    match random.below(20) {
+        0..=5 => 0,
+        6..=14 => 1 + random.below(3),
+        15..=18 => 4 + random.below(MOST - 3),
+        _ => MOST + 1,
+    }
+}
+
 fn level(random: &mut Random, model: &Model) -> Call {
     let (name, module) = module(random, model);
-    let count = random.pick(&[0, 0, 0, 1, 1, 2, 2, 3, 3, 4]);
-    let mut levels: Vec<u8> = match random.below(4) {
+    let count = parameters(random);
+    let from: &[u8] = match random.below(8) {
         // Only what does not mix.
-        0 => (0..count).map(|_| random.pick(&[2, 3])).collect(),
-        _ => (0..count).map(|_| random.below(5) as u8).collect(),
+        0 | 1 => &[2, 3],
+        // Of many at any level one is 4 most often.
+        2 => &[0, 1, 2],
+        3 => &[0, 1, 3],
+        4 => &[0, 1, 2, 3],
+        _ => &[0, 1, 2, 3, 4],
     };
+    let mut levels: Vec<u8> = (0..count).map(|_| random.pick(from)).collect();
     if count > 0 && random.chance(6) {
         let at = random.below(count);
         levels[at] = random.pick(&[5, 6, 255]);
@@ -222,9 +240,9 @@ fn level(random: &mut Random, model: &Model) -> Call {
 
 fn expand(random: &mut Random, file: &[u8], model: &Model) -> (Call, Option<&'static str>) {
     let (name, module) = module(random, model);
-    let params = random.pick(&[0, 0, 0, 1, 1, 2, 2, 3, 3, 4]);
+    let params = parameters(random) as u8;
     let expr = expression(random, model, module, params as usize);
-    let (mut cards, mut out) = (vec![0; 32_000], vec![0; 65_535]);
+    let (mut cards, mut out) = (vec![0; CARDS], vec![0; 65_535]);
     let length = reference::expand(file, &mut cards, name, &expr, params, &mut out);
     let length = length.map_or(20, |length| length as usize);
     let (room, label) = match random.below(12) {

@@ -2,6 +2,7 @@
 
 use crate::accepted;
 use crate::book;
+use crate::cards::{self, CARD, CARDS};
 use crate::cases::{Call, Case, Outcome};
 use crate::checker::{Checker, Offer};
 use crate::coverage::{Coverage, Section};
@@ -19,7 +20,8 @@ use crate::random::Random;
 use crate::shrink;
 use crate::substitutes;
 use crate::syntax;
-use reference::{Rules, Seen};
+use crate::wide;
+use reference::{Compared, Rules, Seen};
 use std::fmt::{self, Display, Formatter};
 
 /// What to compare.
@@ -96,11 +98,13 @@ pub struct Report {
     pub given_up: u64,
     /// Likeness and bodies that are what the generator knows.
     pub by_the_model: u64,
-    /// Files judged the same by the book: the verdict, and every entry of every card.
+    /// Files judged the same by the book: the verdict, and every byte of every card.
     pub by_the_book: u64,
     /// Brought definitions that the second opinion on lawful instances looked at, and gave up.
     pub stayed_lawful: u64,
     pub opinions_given_up: u64,
+    /// What the second opinion on cards compared.
+    pub exact: Compared,
     pub difference: Option<Difference>,
 }
 
@@ -130,6 +134,18 @@ impl Display for Report {
             f,
             "{} brought definitions lawful by the second opinion; it gave up {} times",
             self.stayed_lawful, self.opinions_given_up
+        )?;
+        let Compared {
+            definitions,
+            vectors,
+            alike,
+            unlike,
+            given_up,
+        } = self.exact;
+        writeln!(
+            f,
+            "{} cards exact at {vectors} vectors by the second opinion, by parameters {definitions:?}; {alike} equal to one before, {unlike} not; it gave up {given_up} times",
+            definitions.iter().sum::<u64>(),
         )?;
         if self.not_offered > 0 {
             let count = self.not_offered;
@@ -177,7 +193,7 @@ fn size(random: &mut Random) -> (usize, usize) {
 }
 
 /// Files of one turn.
-const TURN: u64 = 30;
+const TURN: u64 = 32;
 
 /// The file of this number in a run. Numbers take turns through all the kinds of files.
 pub fn generate(seed: u64, number: u64) -> Generated {
@@ -286,6 +302,19 @@ pub fn generate(seed: u64, number: u64) -> Generated {
                 ..plain(mixed.file)
             }
         }
+        30 | 31 => {
+            let number = 2 * turn + slot as usize - 30;
+            let wide = wide::build(number % wide::count(), random);
+            let meant = wide.fault.map(|place| Meant {
+                cause: 12,
+                place: Some(place),
+            });
+            Generated {
+                meant: Some((Section::Wide, wide.label, meant)),
+                calls: wide.calls,
+                ..plain(wide.file)
+            }
+        }
         26..=29 => {
             let number = 4 * turn + slot as usize - 26;
             let lawful = lawful::build(number % lawful::count(), random);
@@ -348,7 +377,9 @@ pub fn run(left: &dyn Checker, right: &dyn Checker, options: Options) -> Report 
 
 /// Most tokens of a tree of the long way.
 const FUEL: usize = 2_000;
-/// Most bytes of a file that is judged by the book as well.
+/// The same where cards are looked at, at many vectors.
+const EXACT: usize = 500;
+/// Most bytes of a file that is judged by the book as well, and whose cards are looked at.
 const BOOK: usize = 4_000;
 
 impl Runner<'_> {
@@ -446,7 +477,7 @@ impl Runner<'_> {
         self.report.coverage.case(&case, &outcome, verdict);
         let checked = case.clone();
         case.cards = queries::card_memory(random);
-        if case.cards != 32_000 {
+        if case.cards != CARDS {
             let outcome = self.compare(&case)?;
             self.report.coverage.case(&case, &outcome, verdict);
         }
@@ -485,9 +516,12 @@ impl Runner<'_> {
         }
         self.report.coverage.accepted += 1;
         let fields = syntax::fields(&file);
-        let cards = &outcome.cards[..32_000];
+        let cards = &outcome.cards[..CARDS];
         self.report.coverage.file(file.len(), &fields, cards);
         let model = Model::of(&fields, cards);
+        if file.len() <= BOOK {
+            self.exact_cards(&checked, cards)?;
+        }
         let long_way = file.len() < 2_000 && random.chance(60);
         if long_way && !model.definitions.is_empty() {
             for _ in 0..3 {
@@ -574,7 +608,7 @@ impl Runner<'_> {
         };
         let same = match (&judged, verdict) {
             (Ok(book), None) => {
-                let used = 125 * book.model.definitions.len();
+                let used = CARD * book.model.definitions.len();
                 outcome.cards[..used] == book.model.cards[..used]
             }
             (Err(refusal), Some(verdict)) => *refusal == verdict,
@@ -621,18 +655,30 @@ impl Runner<'_> {
         None
     }
 
-    /// Compares an entry of a card with the long way's level.
+    /// Asks for a second opinion on the cards of an accepted file. `None` if one is not exact.
+    fn exact_cards(&mut self, case: &Case, cards: &[u8]) -> Option<()> {
+        let opinion = match reference::exact_cards(&case.file, cards, EXACT) {
+            Ok(opinion) => opinion,
+            Err(refusal) => {
+                self.astray(case, format!("accepted, and refused: {refusal:?}"));
+                return None;
+            }
+        };
+        if opinion.inexact.is_empty() {
+            self.report.exact += opinion.compared;
+            return Some(());
+        }
+        self.astray(case, format!("cards not exact: {:?}", opinion.inexact));
+        None
+    }
+
+    /// Compares a card at a vector with the long way's level.
     fn card_the_long_way(&mut self, random: &mut Random, case: &Case, model: &Model) -> Option<()> {
         let d = random.below(model.definitions.len());
         let count = model.definitions[d].parameters;
-        let levels: Vec<u8> = (0..count).map(|_| random.below(5) as u8).collect();
-        let weights = [1, 5, 25];
-        let entry: usize = levels
-            .iter()
-            .zip(weights)
-            .map(|(&l, w)| l as usize * w)
-            .sum();
-        let found = model.card(d)[entry] as u32;
+        let vectors = reference::vectors(count as usize);
+        let levels = random.pick(vectors);
+        let found = cards::read(model.card(d), &levels) as u32;
         match reference::long_way_definition(&case.file, d as u32, &levels, FUEL) {
             None => self.report.given_up += 1,
             Some(Ok(level)) if level == found => self.report.long_way += 1,

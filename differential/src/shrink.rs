@@ -1,5 +1,6 @@
 //! Makes a case that shows a difference small.
 
+use crate::cards::CARDS;
 use crate::cases::{Call, Case};
 use crate::syntax::{self, op, Expr, Field};
 use std::time::{Duration, Instant};
@@ -44,7 +45,7 @@ fn weight(case: &Case) -> usize {
         Call::Alike { a, b } => 10 + (*a).min(300) as usize + (*b).min(300) as usize,
         Call::Body { d } => 10 + (*d).min(300) as usize,
     };
-    let memory = (case.cards != 32_000) as usize + (case.fill != 0) as usize;
+    let memory = (case.cards != CARDS) as usize + (case.fill != 0) as usize;
     1_000 * case.file.len() + 10 * call + memory
 }
 
@@ -115,7 +116,7 @@ impl Shrinker<'_> {
     fn call(&mut self) {
         self.offer_call(Call::Check);
         let plain = Case {
-            cards: 32_000,
+            cards: CARDS,
             fill: 0,
             ..self.best.clone()
         };
