@@ -222,7 +222,7 @@ fn causes() -> Vec<Named> {
         // 17
         ("module 0", expand(0, &x(), 0, 100)),
         ("a module that there is not", expand(99, &x(), 0, 100)),
-        ("no module before layout", bytes(99, &[], 4)),
+        ("no module before layout", bytes(99, &[], 9)),
         ("x in another module", expand(BESIDE, &x(), 0, 100)),
         // 3
         ("empty", bytes(LINES, &[], 0)),
@@ -230,15 +230,17 @@ fn causes() -> Vec<Named> {
         ("left over", bytes(LINES, &[5, 0, 1, 0], 0)),
         ("code 126", bytes(LINES, &[4, 126], 0)),
         ("name 0", bytes(LINES, &[2, 0, 0, 0], 0)),
-        ("cut and four parameters", bytes(LINES, &[4, 49], 4)),
+        ("cut and nine parameters", bytes(LINES, &[4, 49], 9)),
         // 5
         ("three parameters", over(p(2), 3)),
         ("four parameters", over(p(3), 4)),
+        ("eight parameters", over(and(p(7), p(0)), 8)),
+        ("nine parameters", over(p(8), 9)),
         ("255 parameters", over(lit(0), 255)),
         ("nesting 32", line(wrap(31, x()))),
         ("nesting 33", line(wrap(32, x()))),
         ("nesting 33, dropped", line(f(wrap(31, x())))),
-        ("four arguments", line(Expr::Name(99, vec![lit(0); 4]))),
+        ("nine arguments", line(Expr::Name(99, vec![lit(0); 9]))),
         // 9
         ("an unknown name", line(n(99, &[]))),
         ("an unknown name, dropped", line(f(n(99, &[])))),
@@ -526,7 +528,7 @@ fn through_chains() -> Vec<Named> {
 fn memories() -> Vec<Query> {
     let file = syntax::file(&trial_file());
     let mut all = Vec::new();
-    for (lent, what) in [(31_999, "one byte short"), (0, "none"), (40_000, "more")] {
+    for (lent, what) in [(4_095, "one byte short"), (0, "none"), (40_000, "more")] {
         for (label, call) in [
             ("G", expand(LINES, &n(name::G, &[p(0), p(1)]), 2, 100)),
             ("no such module", expand(99, &lit(0), 9, 0)),
@@ -559,7 +561,7 @@ pub fn all() -> Vec<Query> {
         label,
         file,
         call,
-        lent: 32_001,
+        lent: 4_097,
     };
     let mut all: Vec<Query> = parts.into_iter().flatten().map(query).collect();
     all.extend(memories());

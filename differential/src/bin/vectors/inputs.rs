@@ -17,8 +17,10 @@ const INSTANCE: u16 = 30_001;
 /// The names that each module declares.
 const V: u16 = 40_001;
 const C: u16 = 40_002;
-/// Definitions of a source; there is a source for each number of parameters.
-const EACH: u16 = 8;
+/// Numbers of parameters, for each of which there is a source.
+const COUNTS: [u8; 8] = [0, 1, 2, 3, 4, 5, 6, 8];
+/// Definitions of a source.
+const EACH: u16 = 4;
 /// Modules that bring all sources: 32 definitions written, and seven times 32 brought.
 const USERS: u16 = 7;
 
@@ -55,7 +57,10 @@ fn body(number: u16, parameters: u8) -> Expr {
 
 /// A module of definitions that all have so many parameters.
 fn source(parameters: u8) -> Vec<Field> {
-    let define = |number| Field::Definition(DEFINED + number, parameters, body(number, parameters));
+    // Every kind of body comes with an even number of parameters or with an odd one.
+    let kind = |number| 2 * number + u16::from(parameters % 2);
+    let define =
+        |number| Field::Definition(DEFINED + number, parameters, body(kind(number), parameters));
     let mut fields = vec![
         Field::Module(SOURCE + u16::from(parameters)),
         Field::Variable(V),
@@ -70,21 +75,21 @@ fn source(parameters: u8) -> Vec<Field> {
 fn user(number: u16) -> Vec<Field> {
     let bring = |parameters: u8| {
         let name = INSTANCE + 10 * number + u16::from(parameters);
-        let variable = match number % 4 {
-            last if last < u16::from(3 - parameters) => p(last as u8),
+        let variable = match number {
+            last if last < u16::from(8 - parameters) => p(last as u8),
             _ => n(V, &[]),
         };
         let with = [(V, variable), (C, lit(number))];
-        instance(name, 3 - parameters, SOURCE + u16::from(parameters), &with)
+        instance(name, 8 - parameters, SOURCE + u16::from(parameters), &with)
     };
     let mut fields = vec![Field::Module(USER + number), Field::Variable(V)];
-    fields.extend((0..=3).map(bring));
+    fields.extend(COUNTS.map(bring));
     fields
 }
 
 /// 256 definitions in 32,768 bytes: the last module has a THEOREM of what is left of them.
 fn full() -> Vec<u8> {
-    let mut modules: Vec<_> = (0..=3).map(source).collect();
+    let mut modules: Vec<_> = COUNTS.map(source).to_vec();
     modules.extend((0..USERS).map(user));
     let mut fields = modules.join(&Field::End);
     let rest = [Field::Theorem(lit(0)), Field::End];
@@ -94,7 +99,7 @@ fn full() -> Vec<u8> {
     syntax::file(&fields)
 }
 
-/// Cause 14 in field 15: a variable for a constant. The THEOREM after it has cause 9.
+/// Cause 14 in field 11: a variable for a constant. The THEOREM after it has cause 9.
 fn refused() -> Vec<u8> {
     let mut fields = source(0);
     fields.extend([

@@ -83,7 +83,7 @@ fn faults() -> Vec<(&'static str, Expr)> {
         ("no fault", lit(9)),
         ("nesting 32", deep(31)),
         ("nesting 33", deep(32)),
-        ("four arguments", n(X, &[lit(1), lit(2), lit(3), lit(4)])),
+        ("nine arguments", n(X, &vec![lit(1); 9])),
         ("an unknown name", n(9, &[])),
         ("a module's name", n(LAST, &[])),
         ("an instance as an operator", n(I, &[])),

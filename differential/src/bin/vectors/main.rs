@@ -17,7 +17,7 @@ use differential::checker::refusal;
 use differential::random::Random;
 use differential::syntax::{self, brought, instance, lit, n, op, p, Field};
 use differential::{
-    accepted, faults, lawful, limits, mixed_substitutes, mixing, rows, substitutes,
+    accepted, faults, lawful, limits, mixed_substitutes, mixing, rows, substitutes, wide,
 };
 use reference::{listing, packed_check};
 use std::collections::HashSet;
@@ -31,7 +31,7 @@ struct Vector {
     label: String,
     file: Vec<u8>,
     /// Whether a check of it is lent enough memory whatever its turn: the samples, those of codes, those in
-    /// which a 2 and a 3 meet, and those of lawful instances.
+    /// which a 2 and a 3 meet, those of lawful instances, and those of four to eight parameters.
     whole: bool,
 }
 
@@ -160,7 +160,8 @@ fn instance_operators() -> Vec<(&'static str, Vec<u8>)> {
 }
 
 /// Every planned fault, both sides of every limit, every kind of substitute, every way of a 2 and a 3 to
-/// meet, everything that becomes of a level where it is brought, cut fields, the table of codes and those
+/// meet, everything that becomes of a level where it is brought, everything with four to eight parameters, cut
+/// fields, the table of codes and those
 /// just outside it, accepted files of several shapes, and the samples.
 fn vectors(samples: &Path) -> io::Result<Vec<Vector>> {
     let mut all = Vec::new();
@@ -195,6 +196,12 @@ fn vectors(samples: &Path) -> io::Result<Vec<Vector>> {
     for (number, label) in lawful::labels().into_iter().enumerate() {
         let mut files = built(4, |random| lawful::build(number, random).file);
         add(format!("brought: {label}"), files.swap_remove(0), true);
+    }
+    for (number, label) in wide::labels().into_iter().enumerate() {
+        let files = built(8, |random| wide::build(number, random).file);
+        // The largest: the smallest drops the most.
+        let file = files.into_iter().next_back().expect("a file");
+        add(format!("wide: {label}"), file, true);
     }
     for (label, file) in cuts().into_iter().chain(instance_operators()) {
         add(label.into(), file, false);
@@ -235,11 +242,11 @@ fn three(number: usize) -> [u8; 3] {
 /// and now and then below it.
 const MEMORY: usize = 40_000;
 /// Memory that is enough, in turn.
-const ENOUGH: [usize; 3] = [32_000, 40_000, 32_001];
+const ENOUGH: [usize; 3] = [4_096, 40_000, 4_097];
 /// The output that an expansion is lent a part of: more than the longest takes.
 const OUTPUT: usize = 66_000;
 const LENT: [usize; 11] = [
-    32_000, 40_000, 32_001, 32_000, 40_000, 31_999, 32_000, 32_001, 40_000, 32_000, 0,
+    4_096, 40_000, 4_097, 4_096, 32_000, 4_095, 4_096, 4_097, 40_000, 4_096, 0,
 ];
 
 /// So much memory before a call: no byte is 0 or a level, and none is as the byte beside it.

@@ -12,7 +12,7 @@ use differential::random::Random;
 use differential::syntax::{
     self, always, and, b, brought, instance, lit, n, op, p, prime, tree_of, wrap, Expr, Field,
 };
-use differential::{accepted, lawful, queries};
+use differential::{accepted, lawful, queries, wide};
 use std::collections::BTreeMap;
 use std::io;
 use std::path::Path;
@@ -369,16 +369,21 @@ fn rules() -> Vec<(&'static str, Call)> {
         ("a level of 5", level(LINES, &p(0), &[5])),
         ("a level of 255", level(LINES, &p(0), &[0, 255])),
         (
-            "a level of 5 among four",
-            level(LINES, &p(0), &[0, 0, 0, 5]),
+            "a level of 5 among nine",
+            level(LINES, &p(0), &[0, 0, 0, 0, 0, 0, 0, 0, 5]),
         ),
         (
-            "cut and four parameters",
-            level_of(LINES, vec![4, 49], &[0; 4]),
+            "cut and nine parameters",
+            level_of(LINES, vec![4, 49], &[0; 9]),
         ),
         // 5
         ("three parameters", level(LINES, &p(2), &[1, 2, 3])),
-        ("four parameters", level(LINES, &p(0), &[0; 4])),
+        ("four parameters", level(LINES, &p(3), &[0, 0, 0, 1])),
+        (
+            "eight parameters",
+            level(LINES, &p(7), &[4, 4, 4, 4, 4, 4, 4, 3]),
+        ),
+        ("nine parameters", level(LINES, &p(0), &[0; 9])),
         ("256 parameters", level(LINES, &p(0), &[0; 256])),
         ("257 parameters", level(LINES, &p(0), &[0; 257])),
         ("nesting 32", line(wrap(31, x()))),
@@ -387,12 +392,16 @@ fn rules() -> Vec<(&'static str, Call)> {
             "nesting 33 in what is dropped",
             line(n(name::F, &[wrap(31, x())])),
         ),
-        ("four arguments", line(Expr::Name(99, vec![lit(0); 4]))),
+        ("nine arguments", line(Expr::Name(99, vec![lit(0); 9]))),
         (
-            "four arguments of I!F",
-            line(Expr::Brought(99, 1, vec![lit(0); 4])),
+            "nine arguments of I!F",
+            line(Expr::Brought(99, 1, vec![lit(0); 9])),
         ),
         // 9
+        (
+            "eight arguments of an unknown name",
+            line(Expr::Name(99, vec![lit(0); 8])),
+        ),
         ("an unknown name", line(n(99, &[]))),
         ("a name of another module", line(n(name::K, &[x(), x()]))),
         ("an unknown name, dropped", line(n(name::F, &[n(99, &[])]))),
@@ -482,11 +491,16 @@ fn rules() -> Vec<(&'static str, Call)> {
     ]
 }
 
-/// Likeness where one entry tells, or the parameter count alone.
+/// Likeness where one bit of a card tells, or the parameter count alone.
 fn likeness() -> Vec<(&'static str, Vec<u8>, Call)> {
     let takes = |code| op(code, &[p(0)]);
     let beside = |inner: Expr| and(always(lit(0)), inner);
     let x = || n(90, &[]);
+    // ∧ of eight parameters, one of them left out if there is such a one.
+    let all_but = |left: u8| {
+        let used = (0..8).filter(|index| *index != left).map(p);
+        used.reduce(and).expect("some")
+    };
     let file = module(&[
         Field::Variable(90),
         Field::Definition(1, 0, lit(0)),
@@ -503,6 +517,19 @@ fn likeness() -> Vec<(&'static str, Vec<u8>, Call)> {
         Field::Definition(12, 3, and(p(2), and(p(0), p(1)))),
         Field::Definition(13, 3, beside(and(p(0), and(p(1), p(2))))),
         Field::Definition(14, 3, beside(and(p(0), p(1)))),
+        Field::Definition(15, 8, all_but(8)),
+        Field::Definition(16, 8, wrap(1, all_but(8))),
+        Field::Definition(17, 8, all_but(7)),
+        Field::Definition(18, 7, all_but(7)),
+        Field::Definition(19, 2, and(p(0), p(1))),
+        Field::Definition(20, 2, and(op(113, &[p(0)]), and(p(0), p(1)))),
+        Field::Definition(21, 2, and(op(113, &[p(1)]), and(p(0), p(1)))),
+        Field::Definition(
+            22,
+            2,
+            and(and(p(0), op(113, &[p(0)])), and(p(1), op(113, &[p(1)]))),
+        ),
+        Field::Definition(23, 2, and(x(), and(op(113, &[p(0)]), op(113, &[p(1)])))),
     ]);
     let ask = |label, a, b| (label, file.clone(), Call::Alike { a, b });
     vec![
@@ -519,6 +546,13 @@ fn likeness() -> Vec<(&'static str, Vec<u8>, Call)> {
             12,
             13,
         ),
+        ask("eight parameters", 14, 15),
+        ask("eight parameters, one of them dropped", 14, 16),
+        ask("eight parameters and seven", 16, 17),
+        ask("a mask of 15 and one of 7", 18, 19),
+        ask("pairs one way round and the other", 19, 20),
+        ask("a pair or none, the same masks", 19, 21),
+        ask("weights or none, the same masks", 21, 22),
     ]
 }
 
@@ -758,9 +792,16 @@ fn of_samples(samples: &Path) -> io::Result<Vec<Query>> {
                     _ => Expr::Brought(within, operator.name, arguments),
                 };
                 let count = operator.count.into();
-                calls.push(level(module.name, &expr, &[0, 1, 2][..count]));
-                if count > 1 {
-                    calls.push(level(module.name, &expr, &[2, 3, 0][..count]));
+                let asked = [
+                    ([0, 1, 2, 0, 1, 2, 0, 1], 0),
+                    ([2, 3, 0, 0, 0, 0, 0, 0], 2),
+                    ([1, 0, 2, 2, 1, 0, 2, 1], 4),
+                    ([3, 1, 0, 1, 3, 0, 1, 3], 4),
+                ];
+                for (levels, fewest) in asked {
+                    if count >= fewest {
+                        calls.push(level(module.name, &expr, &levels[..count]));
+                    }
                 }
             }
         }
@@ -768,10 +809,26 @@ fn of_samples(samples: &Path) -> io::Result<Vec<Query>> {
             label: label.clone(),
             file: file.clone(),
             call,
-            lent: 32_000,
+            lent: 4_096,
         }));
     }
     Ok(all)
+}
+
+/// Queries of files in which something has eight parameters or arguments, and of bodies by what they make of a
+/// card.
+fn of_wide() -> Vec<(String, Vec<u8>, Call)> {
+    let mut all = Vec::new();
+    for (number, label) in wide::labels().into_iter().enumerate() {
+        if !label.ends_with("of 8") && !label.starts_with("body") {
+            continue;
+        }
+        let wide = wide::build(number, &mut Random::new(number as u64));
+        for call in wide.calls {
+            all.push((format!("wide: {label}"), wide.file.clone(), call));
+        }
+    }
+    all
 }
 
 /// Every stored query.
@@ -787,17 +844,18 @@ pub fn all(samples: &Path) -> io::Result<Vec<Query>> {
         });
     };
     for (label, call) in trial_lines() {
-        add(format!("trial line: {label}"), &trial, call, 32_000);
+        add(format!("trial line: {label}"), &trial, call, 4_096);
     }
     for (label, call) in mixing() {
-        add(format!("2 and 3: {label}"), &trial, call, 32_000);
+        add(format!("2 and 3: {label}"), &trial, call, 4_096);
     }
     for (label, call) in rules() {
-        add(label.into(), &trial, call, 32_000);
+        add(label.into(), &trial, call, 4_096);
     }
     for (lent, what) in [
-        (31_999, "one byte short"),
+        (4_095, "one byte short"),
         (0, "no memory"),
+        (32_000, "as much as before"),
         (40_000, "more"),
     ] {
         let asked = [
@@ -812,16 +870,19 @@ pub fn all(samples: &Path) -> io::Result<Vec<Query>> {
         }
     }
     for (label, file, call) in likeness() {
-        add(format!("alike: {label}"), &file, call, 32_001);
+        add(format!("alike: {label}"), &file, call, 4_097);
     }
     for (label, file, call) in bodies() {
-        add(label, &file, call, 32_001);
+        add(label, &file, call, 4_097);
     }
     for (label, file, call) in refused_files() {
         add(label.into(), &file, call, 40_000);
     }
     for (label, file, call) in of_lawful_instances() {
-        add(label, &file, call, 32_000);
+        add(label, &file, call, 4_096);
+    }
+    for (label, file, call) in of_wide() {
+        add(label, &file, call, 4_096);
     }
     all.extend(expansions::all());
     all.extend(long::all());
