@@ -14,12 +14,13 @@ use Rattle.laws.proofs.Invariant.{good-file}
 use Rattle.laws.proofs.Memory.{few-params}
 use Rattle.laws.proofs.Within.{within-file}
 use Rattle.laws.specs.Cards.{nameAtParams}
-use Rattle.limits.specs.Limits.{maxArity}
+use Rattle.limits.specs.Limits.{cardBytes, maxArity}
 use Rattle.rules.specs.Run.{checked, judgeFile, result}
 use Rattle.rules.specs.State.{State, expansionOf}
 use Rattle.theory.proofs.ExactCards.{exact-cards}
 use Rattle.theory.specs.Card.{readCard}
 use Rattle.theory.specs.ExactCards.{cardFor}
+use Rattle.theory.specs.Lists.{All}
 use Rattle.theory.specs.Term.{Term}
 
 module _ (d : Carded) where
@@ -51,6 +52,10 @@ pub short-cards : ShortCards
 short-cards =
     record {
       has-body = λ d. (few d, can-be-expanded d);
+      sixteen =
+          λ d.
+          let (u, b) = can-be-expanded d in
+          subst⁻¹ (λ (c : List ℕ). (length c ≡ cardBytes) × All (λ b. b < 256) c) (by-probing d u b) (exact-cards .sixteen (countOf d) (few d) u);
       by-probing = by-probing;
       exact = λ d u b v w. ap (λ (c : List ℕ). readCard c v) (by-probing d u b) ∙ exact-cards .exact (countOf d) (few d) u v w;
       equal-cards =

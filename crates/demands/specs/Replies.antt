@@ -51,7 +51,7 @@ pub record LevelReplied (file lent : List ℕ) (m : ℕ) (levels bytes : List �
   pub given : Levels levels
   pub by-cards : l ≡ level (byCards (cardIn (checkLeaves file lent))) levels (termOf file m (length levels) bytes belongs)
 
--- ALIKE. "Two definitions are alike when parameter counts and cards agree."
+-- ALIKE. "Two definitions are alike when parameter counts and cards agree." Byte 0 of a card is the count, so equal cards have equal counts.
 abbrev pub Alike : (file left : List ℕ) (g h : ℕ) → Type 0
 Alike file left g h = (paramsOf (stateOf file) g ≡ paramsOf (stateOf file) h) × (cardPart left g ≡ cardPart left h)
 

@@ -6,19 +6,17 @@
 use mathlib.Core.List.{List}
 use mathlib.Core.Logic.{_↔_}
 use mathlib.Core.Path.{_≡_}
+use lib.ListN.{length}
 use Prim.Native.Nat.{_<_, _≤_, ℕ}
 use Rattle.demands.specs.Archive.{checkLeaves, checkTells, stateOf}
 use Rattle.demands.specs.LongWay.{InFull}
 use Rattle.laws.specs.Cards.{cardIn, cardPart, nameAtParams}
-use Rattle.limits.specs.Limits.{maxArity}
+use Rattle.limits.specs.Limits.{cardBytes, maxArity}
 use Rattle.rules.specs.Run.{result}
 use Rattle.rules.specs.State.{paramsOf}
 use Rattle.theory.specs.ExactCards.{Vector, cardFor}
+use Rattle.theory.specs.Lists.{All}
 use Rattle.theory.specs.Term.{Term, level, longWay}
-
--- u is the body of definition g of an accepted file, "expanded": replaced in full, "a brought one taken as its instance brings it"
-abbrev pub ExpandedBody : (file : List ℕ) (g : ℕ) → Term → Type 0
-ExpandedBody file g u = InFull (stateOf file) (nameAtParams (stateOf file) g) u
 
 -- A definition of an accepted file: the file, the memory lent, what a check of it tells, and the definition's number.
 pub record Carded : Type 0 where
@@ -36,14 +34,17 @@ countOf d = paramsOf (stateOf (d .file)) (d .number)
 abbrev pub bytesOf : Carded → List ℕ
 bytesOf d = cardPart (checkLeaves (d .file) (d .lent)) (d .number)
 
+-- u is its body, "expanded": replaced in full as demand 3 has it, "a brought one taken as its instance brings it"
 abbrev pub Body : Carded → Term → Type 0
-Body d u = ExpandedBody (d .file) (d .number) u
+Body d u = InFull (stateOf (d .file)) (nameAtParams (stateOf (d .file)) (d .number)) u
 
 -- SHORT CARDS
 pub record ShortCards : Type 0 where
   -- every definition has an expanded body, over eight parameters at most,
   pub has-body : (d : Carded) → (countOf d ≤ maxArity) × ((u : Term) × Body d u)
-  -- and its card is, byte for byte, the one that L7 words for the levels of that body;
+  -- and a card of 16 bytes, each of them a byte,
+  pub sixteen : (d : Carded) → (length (bytesOf d) ≡ cardBytes) × All (λ b. b < 256) (bytesOf d)
+  -- which is, byte for byte, the one that L7 words for the levels of that body;
   pub by-probing : (d : Carded) (u : Term) → Body d u → bytesOf d ≡ cardFor (countOf d) u
   -- "Prove this exact for every expanded body":
   pub exact : (d : Carded) (u : Term) → Body d u → (v : List ℕ) → Vector (countOf d) v → cardIn (checkLeaves (d .file) (d .lent)) (d .number) v ≡ level longWay v u
