@@ -2,7 +2,7 @@
 use mathlib.Core.Bool.{Bool, not}
 use mathlib.Core.List.{List, [], _∷_}
 use mathlib.Core.Logic.{_↔_}
-use mathlib.Core.Path.{_∙_, _≡_, ap, refl, subst, subst⁻¹, sym}
+use mathlib.Core.Path.{_∙_, _≡_, ap, subst, subst⁻¹, sym}
 use lib.Dec.{T, T-not, eqb, eqb-refl, eqb→eq, le→leb, lit≤, not-T}
 use lib.ListN.{getD, replicate, set}
 use lib.Seq.{getD-set-other, set-set}
@@ -18,7 +18,7 @@ use Rattle.theory.proofs.LinearProbes.{alone-probe, clashes-two, linear
 use Rattle.theory.proofs.Lists.{getD-all}
 use Rattle.theory.proofs.NearestMask.{to-zero}
 use Rattle.theory.proofs.ReadingCards.{card-reads}
-use Rattle.theory.specs.Card.{alone, maskOf, readCard}
+use Rattle.theory.specs.Card.{maskOf, readCard}
 use Rattle.theory.specs.ExactCards.{ExactCards, Vector, cardFor, levelsAt}
 use Rattle.theory.specs.Lattice.{Below, higher}
 use Rattle.theory.specs.Level.{IsLevel, incorrect}

@@ -1,6 +1,6 @@
 -- Cards of one parameter and of two, tried at every base, label and level.
-use mathlib.Core.Bool.{Bool, _&&_, _||_, cond, not}
-use mathlib.Core.List.{List, [], _∷_}
+use mathlib.Core.Bool.{Bool, _&&_, cond, not}
+use mathlib.Core.List.{[], _∷_}
 use mathlib.Core.Path.{_≡_}
 use lib.Dec.{T, eqb, eqb→eq, leb}
 use Prim.Native.Nat.{ℕ}

@@ -1,15 +1,14 @@
 -- What a card finds where the level is linear: of each parameter, and of each two, only the base and their labels count.
 use mathlib.Core.List.{List, [], _∷_}
-use mathlib.Core.Path.{_∙_, _≡_, ap, ap₂, refl, subst, subst⁻¹, sym}
-use lib.Dec.{lit≤}
-use lib.ListN.{getD, length, length-replicate, length-set, replicate, set}
+use mathlib.Core.Path.{_∙_, _≡_, ap, refl, subst, subst⁻¹, sym}
+use lib.ListN.{getD, length, length-set, replicate, set}
 use lib.Seq.{getD-set-other, getD-set-same}
 use native.Mathlib.Decide.{ℕ-discrete}
 use native.Mathlib.Omega.{arith}
 use Prim.Native.Nat.{_<_, ℕ}
 use Rattle.theory.proofs.Cards.{set-vector, zeros}
 use Rattle.theory.proofs.Labels.{Label, act, act-level, act-zero}
-use Rattle.theory.proofs.Lattice.{below-incorrect, below-left, below-right, below-same, below-then, below-zero, higher-lowest, higher-swap, lattice}
+use Rattle.theory.proofs.Lattice.{below-incorrect, below-left, below-right, below-same, below-then, below-zero, higher-lowest, lattice}
 use Rattle.theory.proofs.Levels.{highest-level}
 use Rattle.theory.proofs.Linear.{Above, Linear, added-level}
 use Rattle.theory.proofs.Lists.{getD-all, replicate-all}

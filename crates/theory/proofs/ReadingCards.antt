@@ -11,7 +11,7 @@ use Prim.Native.Nat.{_<_, _≤_, ℕ}
 use Rattle.limits.specs.Limits.{maxArity}
 use Rattle.theory.proofs.CardBytes.{byteAt, pair-byte, taken-byte, weighted-byte}
 use Rattle.theory.proofs.LabelCards.{adds, base-apart, clash-makes-4, clash-set, clash₂, taken₁, weight₁}
-use Rattle.theory.proofs.Labels.{Label, act, act-level}
+use Rattle.theory.proofs.Labels.{Label, act}
 use Rattle.theory.proofs.Lattice.{below-right, below-then, higher-lowest, highest-lowest, highest-upper, lattice}
 use Rattle.theory.proofs.Linear.{Linear, added-level}
 use Rattle.theory.proofs.LinearProbes.{above, clashes-two, linear-level, takes-one, weighs-one, zero-probe}
