@@ -73,7 +73,7 @@ module _ (n : ℕ) (f : List ℕ → ℕ) where
           let l : a * suc y ≤ a * b = mul-le-mul-left a k in
           omega (arith, l, mul-suc a y)
 
-  pub pair-at : (m i j : ℕ) → i < j → j < m → bit (pairsBelow n f m) (pairBit i j) ≡ clashes n f i j
+  pair-at : (m i j : ℕ) → i < j → j < m → bit (pairsBelow n f m) (pairBit i j) ≡ clashes n f i j
   pair-at zero i j h k = absurd (omega arith)
   pair-at (suc m) i j h k = ap (λ (y : ℕ). bit (pairsBelow n f m + y) (pairBit i j)) (pairs-with m m) ∙ go (decLt j m) (pair-at m i j h)
     where

@@ -82,7 +82,7 @@ module _ (n : ℕ) (f : List ℕ → ℕ) (lin : Linear n (λ v m. Below (f v) m
       (probe v q i i (higher b x) (λ j d e. getD-set-other (noughts n) i j l 0 d ∙ zero-at n j) (below-left b x (lin .base-level) (act-level (w i) l k)) up up)
       (higher-lowest b x (f v) (above v q .0) (subst (λ (y : ℕ). Below (act (w i) y) (f v)) here (above v q .1 i h)))
 
-  pub together-probe : (i j l k : ℕ) → i < j → j < n → IsLevel l → IsLevel k → together n f i l j k ≡ higher (higher b (act (w i) l)) (act (w j) k)
+  together-probe : (i j l k : ℕ) → i < j → j < n → IsLevel l → IsLevel k → together n f i l j k ≡ higher (higher b (act (w i) l)) (act (w j) k)
   together-probe i j l k h below p r =
       let u = set (noughts n) i l in
       let v = set u j k in
