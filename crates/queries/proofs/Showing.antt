@@ -9,13 +9,15 @@ use native.Mathlib.Omega.{arith}
 use lib.Dec.{eqb, leb, ltb}
 use lib.ListN.{getD, length}
 use Rattle.limits.specs.Limits.{cardBytes}
+use Rattle.theory.specs.Card.{cardOf}
+use Rattle.theory.specs.Lists.{sameNumbers}
 use Rattle.rules.specs.Field.{Field}
 use Rattle.rules.specs.Query.{alike, alikeReply, bodyReply}
 use Rattle.rules.specs.Run.{Outcome, andThen, card, memoryAfter, refusal, result}
-use Rattle.rules.specs.State.{Added, State, definitionAt, paramsOf}
+use Rattle.rules.specs.State.{Added, State, cardLevel, definitionAt, paramsOf}
 use Rattle.laws.proofs.Memory.{card-at, card-size}
 use Rattle.worlds.specs.Rows.{Row}
-use Rattle.context.specs.Store.{countAt, firstAt, kindAt, store}
+use Rattle.context.specs.Store.{countAt, firstAt, store}
 use Rattle.context.specs.declared.Counts.{Counts}
 use Rattle.judge_plain.specs.declared.Phase.{Phase}
 use Rattle.standing.specs.Standing.{Standing}
@@ -37,13 +39,19 @@ alikeBy s g h a b = andThen (cond a (result g) (refusal 17 0)) λ g. andThen (co
 abbrev bodyBy : State → ℕ → Bool → Outcome (ℕ × ℕ)
 bodyBy s g a = andThen (cond a (result g) (refusal 17 0)) λ g. result (definitionAt s g .bodyStart, definitionAt s g .bodyLength)
 
+-- cards that agree agree in byte 0, "the parameter count"
+counts-too : (n m : ℕ) (f g : List ℕ → ℕ) → sameNumbers (cardOf n f) (cardOf m g) ≡ (eqb n m && sameNumbers (cardOf n f) (cardOf m g))
+unfolding cardOf
+counts-too n m f g = twice (eqb n m) _
+  where
+    twice : (a b : Bool) → (a && b) ≡ (a && (a && b))
+    twice true b = refl
+    twice false b = refl
+
 module _ (file : List ℕ) (fs : List Field) (s : State) (rs : List Row) (names facts contexts orders heads : List ℕ) (c : Counts) (p : Phase) (refs words declared : List ℕ)
     (stands : Standing file fs s rs (store names facts contexts orders heads) c p refs words declared) where
   counted : c .definitions ≡ length (s .definitions)
   counted = stands .holds .definitions
-
-  params-shown : (g : ℕ) → g < c .definitions → kindAt facts g ≡ paramsOf s g
-  params-shown g l = ap (λ (d : Added). d .params) (stands .holds .described g l)
 
   card-there : (cards before : List ℕ) → cards ≡ memoryAfter (result s) before → (g : ℕ) → g < length (s .definitions) → (j : ℕ) → j < length (card s g)
       → getD cards (cardBytes * g + (0 + j)) 0 ≡ getD (card s g) j 0
@@ -52,23 +60,23 @@ module _ (file : List ℕ) (fs : List Field) (s : State) (rs : List Row) (names 
       ∙ card-at s (stands .within) before g j l (omega (arith, card-size s (stands .within) g l))
 
   like-shown : (cards before : List ℕ) → cards ≡ memoryAfter (result s) before → (g h : ℕ) → g < c .definitions → h < c .definitions
-      → likeAt facts cards g h ≡ alike s g h
+      → likeAt cards g h ≡ alike s g h
   like-shown cards before e g h l k =
       let a : g < length (s .definitions) = omega (arith, counted) in
       let b : h < length (s .definitions) = omega (arith, counted) in
       let x = card-size s (stands .within) g a in
       let y = card-size s (stands .within) h b in
-      ap₂ (λ (u v : Bool). u && v) (ap₂ eqb (params-shown g l) (params-shown h k))
-      (ap (sameFrom cards (cardBytes * g) (cardBytes * h) 0) (sym x)
-      ∙ same-lists cards (cardBytes * g) (cardBytes * h) 0 (card s g) (card s h) (x ∙ sym y) (card-there cards before e g a) (card-there cards before e h b))
+      ap (sameFrom cards (cardBytes * g) (cardBytes * h) 0) (sym x)
+      ∙ same-lists cards (cardBytes * g) (cardBytes * h) 0 (card s g) (card s h) (x ∙ sym y) (card-there cards before e g a) (card-there cards before e h b)
+      ∙ counts-too (paramsOf s g) (paramsOf s h) (cardLevel s g) (cardLevel s h)
 
   -- ALIKE
-  pub alike-shown : (cards before : List ℕ) → cards ≡ memoryAfter (result s) before → (g h : ℕ) → alikeIn (alikeAt facts cards (c .definitions) g h) ≡ alikeReply g h s
+  pub alike-shown : (cards before : List ℕ) → cards ≡ memoryAfter (result s) before → (g h : ℕ) → alikeIn (alikeAt cards (c .definitions) g h) ≡ alikeReply g h s
   unfolding alikeAt
   alike-shown cards before e g h = go (leb (c .definitions) g) (leb (c .definitions) h) refl refl
     where
       go : (a b : Bool) → leb (c .definitions) g ≡ a → leb (c .definitions) h ≡ b
-          → alikeIn (cond a (Refused 17 0) (cond b (Refused 17 0) (Compared (likeAt facts cards g h)))) ≡ alikeReply g h s
+          → alikeIn (cond a (Refused 17 0) (cond b (Refused 17 0) (Compared (likeAt cards g h)))) ≡ alikeReply g h s
       go true b u v =
           let l : ltb g (length (s .definitions)) ≡ false = le-ltb g (length (s .definitions)) (omega (arith, counted, leb-true (c .definitions) g u)) in
           sym (ap (λ (x : Bool). alikeBy s g h x (ltb h (length (s .definitions)))) l)
@@ -103,7 +111,7 @@ module _ (q : Question) (names facts contexts heads words cards : List ℕ) (c :
       subst⁻¹ (λ (y : Question). Replies y names facts contexts heads words cards c expr levels r) e
       (record { reply = λ file fs s rs p orders refs declared before stands filled. f ∙ x .reply file fs s rs p orders refs declared stands })
 
-  pub compared : (g h : ℕ) → q ≡ Alike g h → r ≡ alikeAt facts cards (c .definitions) g h → Replies q names facts contexts heads words cards c expr levels r
+  pub compared : (g h : ℕ) → q ≡ Alike g h → r ≡ alikeAt cards (c .definitions) g h → Replies q names facts contexts heads words cards c expr levels r
   compared g h e f =
       subst⁻¹ (λ (y : Question). Replies y names facts contexts heads words cards c expr levels r) e
       (record {

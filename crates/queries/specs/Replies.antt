@@ -10,7 +10,7 @@ use Rattle.rules.specs.Field.{Field}
 use Rattle.rules.specs.Run.{memoryAfter, result}
 use Rattle.rules.specs.State.{State}
 use Rattle.worlds.specs.Rows.{Row}
-use Rattle.context.specs.Store.{countAt, firstAt, kindAt, store}
+use Rattle.context.specs.Store.{countAt, firstAt, store}
 use Rattle.context.specs.declared.Counts.{Counts}
 use Rattle.judge_plain.specs.declared.Phase.{Phase}
 use Rattle.standing.specs.Standing.{Standing}
@@ -26,13 +26,13 @@ unfoldable pub sameFrom : List ℕ → ℕ → ℕ → ℕ → ℕ → Bool
 sameFrom m p q i zero = true
 sameFrom m p q i (suc k) = eqb (getD m (p + i) 0) (getD m (q + i) 0) && sameFrom m p q (suc i) k
 
--- parameter counts and cards agree
-abbrev pub likeAt : List ℕ → List ℕ → ℕ → ℕ → Bool
-likeAt facts cards g h = eqb (kindAt facts g) (kindAt facts h) && sameFrom cards (cardBytes * g) (cardBytes * h) 0 cardBytes
+-- "parameter counts and cards agree": byte 0 of a card is the count
+abbrev pub likeAt : List ℕ → ℕ → ℕ → Bool
+likeAt cards g h = sameFrom cards (cardBytes * g) (cardBytes * h) 0 cardBytes
 
 -- of n definitions, 17 being "no such module or definition"
-unfoldable pub alikeAt : List ℕ → List ℕ → ℕ → ℕ → ℕ → Replied
-alikeAt facts cards n g h = cond (leb n g) (Refused 17 0) (cond (leb n h) (Refused 17 0) (Compared (likeAt facts cards g h)))
+unfoldable pub alikeAt : List ℕ → ℕ → ℕ → ℕ → Replied
+alikeAt cards n g h = cond (leb n g) (Refused 17 0) (cond (leb n h) (Refused 17 0) (Compared (likeAt cards g h)))
 
 unfoldable pub bodyAt : List ℕ → ℕ → ℕ → Replied
 bodyAt facts n g = cond (leb n g) (Refused 17 0) (Located (firstAt facts g) (countAt facts g))

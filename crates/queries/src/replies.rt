@@ -1,12 +1,12 @@
 // The reply to a question about a file that was accepted, from the arrays that show its state.
 ghost use mathlib.Core.Path.{_≡_};
-ghost use Prim.Native.Nat.{_*_, _≤_, _<_};
+ghost use Prim.Native.Nat.{_≤_, _<_};
 ghost use lib.ListN.{length};
-ghost use Rattle.limits.specs.Limits.{cardBytes, cardMemoryBytes, maxDefinitions, maxModules};
+ghost use Rattle.limits.specs.Limits.{cardMemoryBytes, maxDefinitions, maxModules};
 ghost use Rattle.levels.specs.Tables.{tableWords};
 ghost use Rattle.asking.specs.Reply.{outcomeOf};
 ghost use Rattle.queries.specs.Question.{levelIn};
-ghost use Rattle.queries.specs.Replies.{Replies, alikeAt, bodyAt, likeAt, sameFrom};
+ghost use Rattle.queries.specs.Replies.{Replies, alikeAt, bodyAt, likeAt};
 use crate::Question;
 use crate::Replied;
 use asking::Asked;
@@ -15,10 +15,11 @@ use context::Counts;
 use context::lists::number_at;
 use limits::Limits;
 
-// Whether the cards of two definitions are the same, byte by byte of the filled card memory.
+// "when parameter counts and cards agree": whether the cards of two definitions are the same, byte by byte of the filled card memory; byte 0 is
+// the count.
 fn same_cards(cards: &[u8], a: usize, b: usize) -> bool
     requires { ⌜ (a < maxDefinitions) × (b < maxDefinitions) × (cardMemoryBytes ≤ length (now cards)) ⌝ }
-    ensures { λ r. ⌜ r ≡ sameFrom (now (cards .entry)) (cardBytes * a) (cardBytes * b) 0 cardBytes ⌝ }
+    ensures { λ r. ⌜ r ≡ likeAt (now (cards .entry)) a b ⌝ }
 {
     let mut i: usize = 0;
     while i < Limits::CARD_BYTES {
@@ -30,21 +31,10 @@ fn same_cards(cards: &[u8], a: usize, b: usize) -> bool
     true
 }
 
-// "when parameter counts and cards agree"
-fn are_alike(facts: &[u16], cards: &[u8], a: usize, b: usize) -> bool
-    requires { ⌜ (a < maxDefinitions) × (b < maxDefinitions) × (cardMemoryBytes ≤ length (now cards)) ⌝ }
-    ensures { λ r. ⌜ r ≡ likeAt (now (facts .entry)) (now (cards .entry)) a b ⌝ }
-{
-    if number_at(facts, Limits::COLUMNS * a) == number_at(facts, Limits::COLUMNS * b) {
-        return same_cards(cards, a, b);
-    }
-    false
-}
-
 // Whether two of n definitions are alike, or cause 17, "no such module or definition".
-fn alike_reply(facts: &[u16], cards: &[u8], n: usize, a: u32, b: u32) -> Replied
+fn alike_reply(cards: &[u8], n: usize, a: u32, b: u32) -> Replied
     requires { ⌜ (n ≤ maxDefinitions) × (cardMemoryBytes ≤ length (now cards)) ⌝ }
-    ensures { λ r. ⌜ r ≡ alikeAt (now (facts .entry)) (now (cards .entry)) n a b ⌝ }
+    ensures { λ r. ⌜ r ≡ alikeAt (now (cards .entry)) n a b ⌝ }
 {
     let g = a as usize;
     let h = b as usize;
@@ -54,7 +44,7 @@ fn alike_reply(facts: &[u16], cards: &[u8], n: usize, a: u32, b: u32) -> Replied
     if n <= h {
         return Replied::Refused(17, 0);
     }
-    Replied::Compared(are_alike(facts, cards, g, h))
+    Replied::Compared(same_cards(cards, g, h))
 }
 
 fn wide(x: u16) -> usize
@@ -114,7 +104,7 @@ pub fn reply_to(
             words,
             c,
         )),
-        Question::Alike(a, b) => alike_reply(facts, cards, c.definitions, a, b),
+        Question::Alike(a, b) => alike_reply(cards, c.definitions, a, b),
         Question::Body(d) => body_reply(facts, c.definitions, d),
     }
 }

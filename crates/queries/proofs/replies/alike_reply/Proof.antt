@@ -9,11 +9,11 @@ returns c = search no-first
 returns-2 : tie.Need-returns-2
 returns-2 c = search no-second
 
-are-alike-requires : tie.Need-are-alike-requires
-are-alike-requires c κs = search needs
+same-cards-requires : tie.Need-same-cards-requires
+same-cards-requires c κs = search needs
 
 returns-3 : tie.Need-returns-3
 returns-3 c = search both
 
 pub alike-reply-spec : {M : Type 1} → statement M
-alike-reply-spec = tie.close (tie.spec returns returns-2 are-alike-requires returns-3)
+alike-reply-spec = tie.close (tie.spec returns returns-2 same-cards-requires returns-3)
