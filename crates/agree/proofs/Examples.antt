@@ -3,7 +3,8 @@ use mathlib.Core.Path.{_≡_, refl}
 use mathlib.Core.Bool.{Bool, true, false}
 use mathlib.Core.List.{List, [], _∷_}
 use mathlib.Core.Option.{some}
-use Prim.Native.Nat.{ℕ}
+use Prim.Native.Nat.{ℕ, _*_}
+use lib.ListN.{replicate}
 use lib.Dec.{leb}
 use Rattle.theory.specs.Tree.{node, ⟨⟩, _▹_}
 use Rattle.theory.specs.Level.{row}
@@ -115,7 +116,7 @@ body-found : filling 20 (exprAt 2 example 16) ≡ some (node (built-in 112) (nod
 unfolding exprAt tokenAt taggedAt arityOf row
 body-found = refl
 
--- nesting 2 is found with nesting 2 left, not with 1; an operator of three arguments is kept, of four passed
+-- nesting 2 is found with nesting 2 left, not with 1; an operator of eight arguments is kept, of nine passed
 body-kept : keptOf (exprAt 2 example 16) ≡ Kept 20
 unfolding exprAt tokenAt taggedAt arityOf row
 body-kept = refl
@@ -124,9 +125,17 @@ body-deep : keptOf (exprAt 1 example 16) ≡ Passed
 unfolding exprAt tokenAt taggedAt arityOf row
 body-deep = refl
 
-four-arguments : keptOf (exprAt 2 (2 ∷ 0 ∷ 5 ∷ 4 ∷ 0 ∷ 0 ∷ 0 ∷ 0 ∷ 0 ∷ 0 ∷ 0 ∷ 0 ∷ []) 0) ≡ Passed
+-- the operator 5 of so many arguments, each a parameter
+abbrev manyArguments : ℕ → List ℕ
+manyArguments k = 2 ∷ 0 ∷ 5 ∷ k ∷ replicate (2 * k) 0
+
+eight-arguments : keptOf (exprAt 2 (manyArguments 8) 0) ≡ Kept 20
 unfolding exprAt tokenAt taggedAt arityOf row
-four-arguments = refl
+eight-arguments = refl
+
+nine-arguments : keptOf (exprAt 2 (manyArguments 9) 0) ≡ Passed
+unfolding exprAt tokenAt taggedAt arityOf row
+nine-arguments = refl
 
 -- a bound index that is unknown
 abbrev unbound : ℕ → Token → ℕ → Bool

@@ -1,6 +1,7 @@
 -- `skim_args`, which calls itself where an argument that others follow has arguments: the nesting falls.
-use Prim.Native.Nat.{_+_, _-_, _*_}
+use Prim.Native.Nat.{_+_, _-_, _*_, suc}
 use native.Mathlib.Omega.{arith}
+use Rattle.limits.specs.Limits.{maxArity}
 use Rattle.context.specs.Parts.{part}
 use Rattle.skimming.proofs.Walking.{Going, going-below, going-end, going-inside, going-leaf, going-low, going-on, going-start, going-within, stop-inside, stop-limit, stop-token}
 use borrow.Author.Needs.{needs}
@@ -37,7 +38,7 @@ skim-args-Inv-loop s column table nexts contexts names facts at count nesting p 
 
 abbrev skim-args-μ-loop : skim-args-lts.MeasureT-loop
 skim-args-μ-loop s column table nexts contexts names facts at count nesting p around within a₀ k₀ nest₀ outer₀ last₀ a k nest outer last =
-    nest * 4 + k
+    nest * suc maxArity + k
 
 skim-args-nothing-requires : (t : ℕ) → skim-args-lts.Need-nothing-requires (skim-args-calls t) (skim-args-at t) skim-args.Post skim-args-Inv-loop skim-args-μ-loop
 skim-args-nothing-requires t c κs = search needs

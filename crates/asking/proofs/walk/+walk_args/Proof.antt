@@ -1,6 +1,7 @@
 -- The walk over arguments: its invariant is that of skimming and that of the walk over a text.
 use native.Mathlib.Omega.{arith}
-use Prim.Native.Nat.{_+_, _-_, _*_}
+use Prim.Native.Nat.{_+_, _-_, _*_, suc}
+use Rattle.limits.specs.Limits.{maxArity}
 use Rattle.context.specs.Parts.{part}
 use Rattle.asking.proofs.Walking.{Going, going-bits, going-bound, going-end, going-inside, going-leaf, going-on, going-roomy, going-start, stop-inside, stop-limit, stop-token}
 use borrow.Author.Needs.{needs}
@@ -38,7 +39,7 @@ walk-args-Inv-loop s column table nexts contexts names facts words at count nest
 
 abbrev walk-args-μ-loop : walk-args-lts.MeasureT-loop
 walk-args-μ-loop s column table nexts contexts names facts words at count nesting p before a₀ form₀ k₀ nest₀ around₀ within₀ label₀ labels₀ a form k nest around within label labels =
-    nest * 4 + k
+    nest * suc maxArity + k
 
 walk-args-nothing-requires : (t : ℕ) → walk-args-lts.Need-nothing-requires (walk-args-calls t) (walk-args-at t) walk-args.Post walk-args-Inv-loop walk-args-μ-loop
 walk-args-nothing-requires t c κs = search needs
