@@ -2,6 +2,7 @@
 
 use crate::{ARCHIVE, REFERENCE};
 use differential::cases::Call;
+use differential::eight;
 use differential::families::{self, Family};
 use differential::syntax::{self, and, instance, lit, n, tree_of, Expr, Field};
 
@@ -66,6 +67,7 @@ pub fn all() -> Vec<Input> {
     let mut hostile = families::checks();
     hostile.push(names_looked_up());
     hostile.extend(families::queries(true));
+    hostile.extend(eight::families(true));
     // By the letters of the families.
     hostile.sort_by_key(|family| family.label.chars().next());
     let usual = families::usual().into_iter();

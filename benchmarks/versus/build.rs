@@ -6,11 +6,15 @@ use std::{env, fs};
 
 const DIRECTORY: &str = "RAFTERCLARY_BEFORE_DIR";
 
-/// A source file without its inner comments, which an included file may not have.
+/// A source file without its inner comments and modules, which an included file may not have. What reads cards is in
+/// such a module: it calls nothing.
 fn source(path: &str) -> String {
     println!("cargo:rerun-if-changed={path}");
     let text = fs::read_to_string(path).unwrap_or_else(|error| panic!("{path}: {error}"));
-    let lines = text.lines().filter(|line| !line.starts_with("//!"));
+    let left_out = ["//!", "mod card;", "pub use card::"];
+    let lines = text
+        .lines()
+        .filter(|line| !left_out.iter().any(|start| line.starts_with(start)));
     lines.map(|line| format!("{line}\n")).collect()
 }
 

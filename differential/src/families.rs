@@ -29,10 +29,27 @@ pub struct Memory {
 
 impl Default for Memory {
     fn default() -> Self {
+        Memory::of(CARDS)
+    }
+}
+
+impl Memory {
+    /// With so many bytes for the cards.
+    pub fn of(cards: usize) -> Self {
         Memory {
-            cards: vec![0; CARDS],
+            cards: vec![0; cards],
             out: vec![0; 70_000],
         }
+    }
+
+    /// What was lent for the cards.
+    pub fn cards(&self) -> &[u8] {
+        &self.cards
+    }
+
+    /// What was lent for the output.
+    pub fn out(&self) -> &[u8] {
+        &self.out
     }
 }
 

@@ -81,8 +81,8 @@ pub enum Fault {
     OutputPastEnd,
     /// Bound indices of an expansion are one too low.
     IndexUnmoved,
-    /// Alike does not look at the pairs.
-    AlikeWithoutPairs,
+    /// Alike looks at the levels with parameters at 0 only.
+    AlikeAtZero,
     /// A definition is alike itself even if there is none.
     AlikeItself,
     /// The body of a brought definition is empty.
@@ -140,7 +140,7 @@ pub const FAULTS: [(&str, Fault); 87] = [
     ("output-on-refusal", Fault::OutputOnRefusal),
     ("output-past-end", Fault::OutputPastEnd),
     ("index-unmoved", Fault::IndexUnmoved),
-    ("alike-without-pairs", Fault::AlikeWithoutPairs),
+    ("alike-at-zero", Fault::AlikeAtZero),
     ("alike-itself", Fault::AlikeItself),
     ("brought-body", Fault::BroughtBody),
     ("body-start", Fault::BodyStart),
@@ -533,8 +533,8 @@ impl Queries for Faulty {
         let file = &self.seen(file)[..];
         let accepted = Self::accepts(file, cards);
         let mut reply = Reference.alike(file, cards, a, b);
-        if accepted && refusal(reply).is_none() && self.is(Fault::AlikeWithoutPairs) {
-            let card = |d: u32| &cards[CARD * d as usize..][..11];
+        if accepted && refusal(reply).is_none() && self.is(Fault::AlikeAtZero) {
+            let card = |d: u32| &cards[CARD * d as usize..][..2];
             reply = (card(a) == card(b)) as u32;
         }
         if let Some(spoilt) = self.spoil(file, &before, cards) {

@@ -10,6 +10,7 @@ pub mod cases;
 pub mod checker;
 pub mod coverage;
 pub mod damage;
+pub mod eight;
 pub mod expansions;
 pub mod families;
 pub mod faults;

@@ -7,6 +7,7 @@ use crate::cases::{Call, Case, Outcome};
 use crate::checker::{Checker, Offer};
 use crate::coverage::{Coverage, Section};
 use crate::damage;
+use crate::eight;
 use crate::expansions;
 use crate::families;
 use crate::faults::{self, Plan};
@@ -425,6 +426,7 @@ impl Runner<'_> {
             families::usual(),
             families::checks(),
             families::queries(false),
+            eight::families(false),
         ];
         for family in all.iter().flatten() {
             if !self.offered(&family.call) {

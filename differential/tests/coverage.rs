@@ -16,6 +16,15 @@ fn counts_are_complete_at_the_default_seed() {
     assert!(missing.is_empty(), "missing:\n{}", missing.join("\n"));
     assert!(report.long_way > 1_000, "{report}");
     assert!(report.by_the_book > 1_500, "{report}");
+    let exact = report.exact;
+    assert!(
+        exact.definitions.iter().all(|&count| count > 100),
+        "{report}"
+    );
+    assert!(
+        exact.given_up < 50 && exact.alike > 1_000 && exact.unlike > 1_000,
+        "{report}"
+    );
 }
 
 /// The reference without its expansions.

@@ -8,7 +8,7 @@ use reference::{staying_lawful_by, Breach, Rules};
 use std::collections::BTreeSet;
 
 /// Files within which a fault has to be found.
-const FILES: u64 = 1_000;
+const FILES: u64 = 1_200;
 
 #[test]
 fn every_fault_is_found_and_shrunk() {

@@ -63,6 +63,25 @@ fn stored_files_stay_lawful() {
     assert!(seen.named_inside >= 40 && seen.chained >= 100, "{seen:?}");
 }
 
+/// The cards of the stored files are exact, and those of up to eight parameters are among them.
+#[test]
+fn stored_cards_are_exact() {
+    let mut compared = reference::Compared::default();
+    for file in stored_files() {
+        let mut cards = vec![0; reference::Limits::CARDS];
+        if reference::check(&file, &mut cards).is_err() {
+            continue;
+        }
+        let opinion = reference::exact_cards(&file, &cards, 500).expect("accepted");
+        assert!(opinion.inexact.is_empty(), "{:?}", opinion.inexact);
+        compared += opinion.compared;
+    }
+    assert!(
+        compared.definitions.iter().all(|&count| count >= 20),
+        "{compared:?}"
+    );
+}
+
 /// No stored answer has the number 15.
 #[test]
 fn no_stored_answer_is_15() {

@@ -3,10 +3,16 @@
 //!
 //! `versus [--only LABEL] [--samples NUMBER] [--reference]`: the families whose labels begin so;
 //! with the reference beside them, in its turn too.
+//!
+//! Before L7 cards took 32,000 bytes, a card 125, and there were three parameters at most. So 32,000 bytes
+//! are lent, cards are compared only if both archives write them alike, and families with more than three
+//! parameters are left out if the archive before takes no more.
 
 use differential::checker::{Checker, Reference};
+use differential::eight;
 use differential::families::{self, Family, Memory};
 use differential::proved::Proved;
+use differential::syntax::{self, p, prime, Field};
 use std::process::ExitCode;
 use std::time::{Duration, Instant};
 
@@ -24,6 +30,9 @@ mod before {
 const BEFORE: &dyn Checker = &before::checker::Proved;
 const NOW: &dyn Checker = &Proved;
 const REFERENCE: &dyn Checker = &Reference;
+
+/// Card memory that is enough for either archive.
+const LENT: usize = 32_000;
 
 const USAGE: &str = "usage: versus [--only LABEL] [--samples NUMBER] [--reference]";
 
@@ -70,7 +79,7 @@ impl Sides {
 
     /// The times of a call on each side, in seconds, sample by sample.
     fn sampled(&self, family: &Family, samples: usize) -> Vec<Vec<f64>> {
-        let mut memory = Memory::default();
+        let mut memory = Memory::of(LENT);
         let calls = calls_of(family, &mut memory);
         let mut times = vec![Vec::new(); self.0.len()];
         let start = Instant::now();
@@ -123,14 +132,28 @@ impl Sides {
     }
 }
 
-/// Whether both give the same reply, cards and output.
-fn agree(family: &Family) -> bool {
+/// A file of one definition of so many parameters, the last one primed: what a checker makes of it.
+fn defined(checker: &dyn Checker, parameters: u8) -> (u32, Vec<u8>) {
+    let body = prime(p(parameters - 1));
+    let file = syntax::file(&[
+        Field::Module(1),
+        Field::Definition(1, parameters, body),
+        Field::End,
+    ]);
+    let mut cards = vec![0; LENT];
+    (checker.check(&file, &mut cards), cards)
+}
+
+/// Whether both give the same reply and output, and the same cards if these are written alike.
+fn agree(family: &Family, same_cards: bool) -> bool {
     let seen = |checker| {
-        let mut memory = Memory::default();
+        let mut memory = Memory::of(LENT);
         let reply = family.call(checker, &mut memory);
         (reply, memory)
     };
-    seen(BEFORE) == seen(NOW)
+    let (before, now) = (seen(BEFORE), seen(NOW));
+    let cards = !same_cards || before.1.cards() == now.1.cards();
+    before.0 == now.0 && before.1.out() == now.1.out() && cards
 }
 
 fn main() -> ExitCode {
@@ -151,6 +174,15 @@ fn main() -> ExitCode {
     let mut all = families::usual();
     all.extend(families::checks());
     all.extend(families::queries(true));
+    if defined(BEFORE, 8).0 == 1 {
+        all.extend(eight::families(true));
+    } else {
+        println!("families with more than three parameters are left out: the archive before takes no more");
+    }
+    let same_cards = defined(BEFORE, 1).1 == defined(NOW, 1).1;
+    if !same_cards {
+        println!("cards are written otherwise by the archive before: only replies and outputs are compared");
+    }
     all.retain(|family| family.label.starts_with(&only));
     assert!(!all.is_empty(), "no family's label begins with {only}");
 
@@ -160,7 +192,7 @@ fn main() -> ExitCode {
     let mut differing = 0;
     for family in &all {
         ratios.push((sides.compare(family, samples), &family.label));
-        if !agree(family) {
+        if !agree(family, same_cards) {
             differing += 1;
             println!("    the two differ in reply or memory");
         }

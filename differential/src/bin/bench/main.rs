@@ -5,6 +5,7 @@ mod limited;
 use differential::cases::Case;
 use differential::checker::Checker;
 use differential::checker_named;
+use differential::eight;
 use differential::families::{self, Family, Memory};
 use std::iter;
 use std::process::ExitCode;
@@ -80,6 +81,7 @@ fn families(only: &str, large: bool) -> Vec<Family> {
     let mut all = families::usual();
     all.extend(families::checks());
     all.extend(families::queries(large));
+    all.extend(eight::families(large));
     all.retain(|family| family.label.starts_with(only));
     all
 }
