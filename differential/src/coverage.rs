@@ -176,7 +176,7 @@ const CONSTRUCTS: [&str; 116] = [
     "256 definitions",
 ];
 
-const QUERIES: [&str; 57] = [
+const QUERIES: [&str; 58] = [
     "check",
     "card memory under 4,096",
     "card memory of 4,096",
@@ -211,7 +211,8 @@ const QUERIES: [&str; 57] = [
     "level refused 17",
     "expand",
     "expand over parameters",
-    "expand over 4 to 8",
+    "expand over 4 to 7",
+    "expand over 8",
     "expand over 9",
     "expand, exact room",
     "expand, one byte short",
@@ -419,7 +420,8 @@ impl Coverage {
                 match params {
                     0 => (),
                     1..=3 => self.query("expand over parameters"),
-                    4..=8 => self.query("expand over 4 to 8"),
+                    4..=7 => self.query("expand over 4 to 7"),
+                    8 => self.query("expand over 8"),
                     _ => self.query("expand over 9"),
                 }
                 if *room == 0 {
