@@ -2,8 +2,7 @@
 use mathlib.Core.Bool.{Bool, cond, false, true}
 use mathlib.Core.List.{List, [], _++_, _∷_, append-assoc}
 use mathlib.Core.Path.{_≡_, _∙_, ap, refl, subst, sym}
-use borrow.Author.Tests.{leb-false}
-use lib.Dec.{eqb, leb, ltb}
+use lib.Dec.{eqb, ltb}
 use lib.ListN.{getD, length}
 use native.Mathlib.Omega.{arith}
 use Prim.Native.Nat.{ℕ, zero, suc, _+_, _/_, _%_, _^_, _≤_, _<_}
@@ -14,13 +13,15 @@ use Rattle.symbols.proofs.Scanning.{piece-size}
 use Rattle.symbols.proofs.Shaping.{shaped-any, shapeds-any}
 use Rattle.symbols.proofs.Sizes.{size-append}
 use Rattle.symbols.specs.Pieces.{Shaped, ShapedHead, scan}
-use Rattle.symbols.specs.Spell.{maskOf, masked, spell}
+use Rattle.symbols.specs.Spell.{aloneShape, maskOf, masked, maxParams, spell}
 use Rattle.symbols.specs.Symbol.{Symbol, call, size}
 use Rattle.strings.specs.Read.{shapeIn, stringAt}
-use Rattle.rewriting.specs.Ends.{endOf, lastFrom}
+use Rattle.rewriting.proofs.Bits.{places-cover}
+use Rattle.rewriting.proofs.Bounding.{dropped}
+use Rattle.rewriting.specs.Ends.{endOf, lastFrom, placesOf}
 use Rattle.unfolding.proofs.CallsAt.{calls-at}
 use Rattle.unfolding.proofs.Holes.{every-at}
-use Rattle.cells.specs.Table.{placesOf, tally}
+use Rattle.cells.specs.Table.{tally}
 use Rattle.call_table.specs.Walking.{Ahead, Source}
 use Rattle.call_table.proofs.Cuts.{cut}
 use Rattle.call_table.proofs.Tallies.{tally-append, tally-call, tally-more}
@@ -29,7 +30,7 @@ use Rattle.call_table.proofs.Tallies.{tally-append, tally-call, tally-m
 pub record Called (shapes : List ℕ) (n : ℕ) (hs : List Symbol) : Type 0 where
   pub us : Terms
   pub ks : List Symbol
-  pub small : ltb (getD shapes n 0) 64 ≡ true
+  pub small : ltb (getD shapes n 0) aloneShape ≡ true
   pub rest : hs ≡ masked (shapeIn shapes) (getD shapes n 0) us ++ ks
   pub shaped : Shaped (shapeIn shapes) (node (defined n) us)
 
@@ -63,31 +64,13 @@ ahead-call shapes n r t gs hs c e l =
       shaped = c .shaped .1;
     }
 
--- the bits after the lowest k
-abbrev pub dropped : ℕ → ℕ → ℕ
-dropped zero h = h
-dropped (suc k) h = dropped k (h / 2)
-
 none-dropped : (k h : ℕ) → h < 2 ^ k → dropped k h ≡ 0
 none-dropped zero h l = omega arith
 none-dropped (suc k) h l = none-dropped k (h / 2) (omega arith)
 
-places-enough : (h : ℕ) → h < 64 → h < 2 ^ placesOf h
-places-enough h l = go (leb 32 h) (leb 16 h) (leb 8 h) (leb 4 h) (leb 2 h) (leb 1 h) refl refl refl refl refl refl
-  where
-    go : (p q s u v w : Bool) → leb 32 h ≡ p → leb 16 h ≡ q → leb 8 h ≡ s → leb 4 h ≡ u → leb 2 h ≡ v → leb 1 h ≡ w
-        → h < 2 ^ cond p 6 (cond q 5 (cond s 4 (cond u 3 (cond v 2 (cond w 1 0)))))
-    go true q s u v w e f g i j k = l
-    go false true s u v w e f g i j k = omega (arith, leb-false 32 h e)
-    go false false true u v w e f g i j k = omega (arith, leb-false 16 h f)
-    go false false false true v w e f g i j k = omega (arith, leb-false 8 h g)
-    go false false false false true w e f g i j k = omega (arith, leb-false 4 h i)
-    go false false false false false true e f g i j k = omega (arith, leb-false 2 h j)
-    go false false false false false false e f g i j k = omega (arith, leb-false 1 h k)
-
 -- a shape speaks of no more arguments than it has places
-pub all-dropped : (h : ℕ) → h < 64 → dropped (placesOf h) h ≡ 0
-all-dropped h l = none-dropped (placesOf h) h (places-enough h l)
+pub all-dropped : (h : ℕ) → h < aloneShape → dropped (placesOf h) h ≡ 0
+all-dropped h l = none-dropped (placesOf h) h (places-cover h l .0)
 
 module _ (a shapes : List ℕ) (n r : ℕ) (t : Term) (z : Source a shapes t) (ks : List Symbol) where
   -- one argument passed, if its bit is set

@@ -15,9 +15,9 @@ use Rattle.symbols.specs.Pieces.{Shaped}
 use Rattle.symbols.specs.Spell.{spell}
 use Rattle.symbols.specs.Symbol.{Spelt, Symbol, call, size}
 use Rattle.strings.specs.Read.{far, shapeIn, stringAt}
-use Rattle.rewriting.specs.Ends.{endOf, lastFrom}
+use Rattle.rewriting.specs.Ends.{endOf, lastFrom, placesOf}
 use Rattle.cells.proofs.Words.{cells-apart, word-other, word-put}
-use Rattle.cells.specs.Table.{EndsCalls, Noted, Sized, Tabled, packed, placesOf, rankAt, tally}
+use Rattle.cells.specs.Table.{EndsCalls, Noted, Sized, Tabled, packed, rankAt, tally}
 use Rattle.cells.specs.Words.{four, wordAt}
 use Rattle.cells.specs.declared.Layout.{Layout}
 use Rattle.cells.specs.declared.Place.{Place}

@@ -11,8 +11,8 @@ use Rattle.theory.proofs.Lists.{never}
 use Rattle.theory.specs.Term.{Term}
 use Rattle.symbols.specs.Symbol.{Symbol, calls}
 use Rattle.strings.specs.Read.{symbolAt}
-use Rattle.rewriting.specs.Ends.{endOf}
-use Rattle.cells.specs.Table.{Sized, placesOf, rankAt}
+use Rattle.rewriting.specs.Ends.{endOf, placesOf}
+use Rattle.cells.specs.Table.{Sized, rankAt}
 use Rattle.cells.specs.Words.{wordAt}
 use Rattle.cells.specs.declared.Layout.{Layout}
 use Rattle.cells.specs.declared.Place.{Place}

@@ -11,6 +11,7 @@ use native.Mathlib.Omega.{arith}
 use Prim.Native.Nat.{ℕ, _+_, _-_, _*_, _/_, _%_, _^_, _≤_, _<_}
 use Rattle.strings.specs.Read.{shapeIn, widthOf}
 use Rattle.symbols.specs.Pieces.{leftAfter}
+use Rattle.symbols.specs.Spell.{maxParams}
 use Rattle.symbols.specs.Symbol.{Symbol, after}
 use Rattle.cells.proofs.Words.{cell-inside}
 use Rattle.cells.specs.Table.{Sized}
@@ -20,10 +21,10 @@ use Rattle.cells.specs.declared.Layout.{Layout}
 use Rattle.call_table.specs.Walking.{Notes, hopped, stepped}
 use Rattle.call_table.specs.declared.Walk.{Walk}
 
-pub cell-small : (stride r i : ℕ) → stride ≤ 9 → r ≤ 16383 → i ≤ 9 → r * stride + i < 2 ^ 18
+pub cell-small : (stride r i : ℕ) → stride ≤ maxParams + 3 → r ≤ 16383 → i ≤ maxParams + 3 → r * stride + i < 2 ^ 19
 cell-small stride r i s h k = let m : r * stride ≤ 16383 * stride = mul-le-mul-right stride h in omega arith
 
-pub row-small : (stride r : ℕ) → stride ≤ 9 → r ≤ 16383 → r * stride < 2 ^ 18
+pub row-small : (stride r : ℕ) → stride ≤ maxParams + 3 → r ≤ 16383 → r * stride < 2 ^ 19
 row-small stride r s h = let m : r * stride ≤ 16383 * stride = mul-le-mul-right stride h in omega arith
 
 pub first-inside : (l : Layout) (bytes r j : ℕ) → Sized l bytes → r < l .room → j ≡ r * l .stride + 0 → 4 * j + 3 < bytes

@@ -12,17 +12,18 @@ use Rattle.theory.specs.Tree.{node}
 use Rattle.symbols.proofs.Scanning.{scan-spell}
 use Rattle.symbols.proofs.Sizes.{size-append}
 use Rattle.symbols.specs.Pieces.{leftAfter, scan}
-use Rattle.symbols.specs.Spell.{masked, spell}
+use Rattle.symbols.specs.Spell.{aloneShape, masked, spell}
 use Rattle.symbols.specs.Symbol.{Symbol, after, call, calls, size}
 use Rattle.strings.specs.Read.{shapeIn, stringAt, symbolAt, widthOf}
+use Rattle.rewriting.proofs.Bounding.{dropped}
 use Rattle.rewriting.proofs.Standing.{call-is}
-use Rattle.rewriting.specs.Ends.{lastFrom}
+use Rattle.rewriting.specs.Ends.{lastFrom, placesOf}
 use Rattle.unfolding.proofs.Masks.{masked-zero}
-use Rattle.cells.specs.Table.{packed, placesOf, rankAt, tally}
+use Rattle.cells.specs.Table.{packed, rankAt, tally}
 use Rattle.cells.specs.Words.{wordAt}
 use Rattle.cells.specs.declared.Layout.{Layout}
 use Rattle.call_table.specs.Walking.{Ahead, Ended, Source, Walks}
-use Rattle.call_table.proofs.Arguments.{Called, ahead-call, ahead-last, all-dropped, called, dropped}
+use Rattle.call_table.proofs.Arguments.{Called, ahead-call, ahead-last, all-dropped, called}
 use Rattle.call_table.proofs.Cuts.{Cut, cut, first-read, none-left, rank-cut, size-one, whole-read}
 use Rattle.call_table.proofs.Tallies.{rank-more, tally-more}
 
@@ -102,7 +103,7 @@ module _ (a shapes : List ℕ) (n known r : ℕ) (t : Term) (z : Source a shapes
       A = ahead-last a shapes n r t z (C .ks) (l .places) h (size (v .gs) + 2) (ahead-call shapes n r t (v .gs) hs C split (let k = v .later in omega arith))
 
       none : dropped (l .places) h ≡ 0
-      none = rw pl (all-dropped h (ltb-true h 64 (C .small)))
+      none = rw pl (all-dropped h (ltb-true h aloneShape (C .small)))
 
       rest : spell (shapeIn shapes) t ≡ A .gs ++ C .ks
       rest =

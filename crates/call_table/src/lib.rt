@@ -6,7 +6,9 @@ ghost use lib.Dec.{eqb, ltb};
 ghost use lib.ListN.{getD, length};
 ghost use Rattle.rows.specs.Rows.{arityColumn};
 ghost use Rattle.strings.specs.Read.{stringAt, symbolOf};
-ghost use Rattle.cells.specs.Table.{EndsCalls, Noted, Sized, placesOf, tally};
+ghost use Rattle.symbols.specs.Spell.{maxParams};
+ghost use Rattle.rewriting.specs.Ends.{placesOf};
+ghost use Rattle.cells.specs.Table.{EndsCalls, Noted, Sized, tally};
 ghost use Rattle.call_table.specs.Walking.{EndsArgument, EndsCall, EndsTerm, Notes, Passes, Placed, Puts, Small, hopped, stepped};
 ghost use Rattle.cells.specs.Words.{wordAt};
 use cells::Layout;
@@ -41,8 +43,8 @@ pub struct Walk {
 
 // Where word i of call r is.
 fn cell(stride: usize, r: usize, i: usize) -> usize
-    requires { ⌜ (stride ≤ 9) × (r ≤ 16383) × (i ≤ 9) ⌝ }
-    ensures { λ j. ⌜ (j ≡ r * stride + i) × (j < 2 ^ 18) ⌝ }
+    requires { ⌜ (stride ≤ maxParams + 3) × (r ≤ 16383) × (i ≤ maxParams + 3) ⌝ }
+    ensures { λ j. ⌜ (j ≡ r * stride + i) × (j < 2 ^ 19) ⌝ }
 {
     r * stride + i
 }
@@ -92,7 +94,7 @@ fn hop(table: &[u8], l: Layout, w: Walk) -> Walk
 }
 
 // Past one symbol.
-fn step(g: Sign, call: bool, shapes: &[u8], arities: &[u8], known: usize, w: Walk) -> Walk
+fn step(g: Sign, call: bool, shapes: &[u32], arities: &[u8], known: usize, w: Walk) -> Walk
     requires { ⌜ (now arities ≡ arityColumn) × (w .at < 131072) × Small w ⌝ }
     ensures { λ v. ⌜ (v ≡ stepped (now (shapes .entry)) known call (symbolOf g) w) × (w .at < v .at) × (v .left ≤ w .left + 255) × (v .c ≤ w .c + 1) ⌝ }
 {
@@ -120,7 +122,7 @@ fn hops(call: bool, rank: usize, known: usize, left: usize) -> bool
 // One turn of a walk: past a call whose end is known, or past one symbol.
 fn pass(
     a: &[u8],
-    shapes: &[u8],
+    shapes: &[u32],
     arities: &[u8],
     n: u16,
     table: &[u8],
@@ -142,7 +144,7 @@ fn pass(
 // Where the term that begins at a place ends.
 fn term_end(
     a: &[u8],
-    shapes: &[u8],
+    shapes: &[u32],
     arities: &[u8],
     n: u16,
     table: &[u8],
@@ -187,13 +189,13 @@ fn term_end(
 // Where an argument ends, the lowest bit of h saying that there is one.
 fn argument_end(
     a: &[u8],
-    shapes: &[u8],
+    shapes: &[u32],
     arities: &[u8],
     n: u16,
     table: &[u8],
     l: Layout,
     known: usize,
-    h: u8,
+    h: u32,
     p: Place,
 ) -> Reached
     requires { ⌜ (length (now a) ≤ 131072) × Sized l (length (now table)) × (known ≤ l .room) × (l .places ≡ placesOf (getD (now shapes) n 0)) × (now arities ≡ arityColumn) × (p .rank ≤ 16383) ⌝ }
@@ -243,13 +245,13 @@ fn put_place(
 // Where argument i of call r ends, put into the table.
 fn put_end(
     a: &[u8],
-    shapes: &[u8],
+    shapes: &[u32],
     arities: &[u8],
     n: u16,
     table: &mut [u8],
     l: Layout,
     known: usize,
-    h: u8,
+    h: u32,
     r: usize,
     i: usize,
     p: Place,
@@ -264,13 +266,13 @@ fn put_end(
 // The places where the arguments of call r end.
 fn end_call(
     a: &[u8],
-    shapes: &[u8],
+    shapes: &[u32],
     arities: &[u8],
     n: u16,
     table: &mut [u8],
     l: Layout,
     known: usize,
-    h: u8,
+    h: u32,
     r: usize,
 ) -> bool
     requires { ⌜ (length (now a) ≤ 131072) × Sized l (length (now table)) × (known ≤ l .room) × (h ≡ getD (now shapes) n 0) × (l .places ≡ placesOf h) × (now arities ≡ arityColumn) × (r < known) ⌝ }
@@ -297,13 +299,13 @@ fn end_call(
 // The ends of all calls noted, the last call first, so that the calls inside the arguments of one are known before it.
 pub fn end_calls(
     a: &[u8],
-    shapes: &[u8],
+    shapes: &[u32],
     arities: &[u8],
     n: u16,
     table: &mut [u8],
     l: Layout,
     known: usize,
-    h: u8,
+    h: u32,
 ) -> bool
     requires { ⌜ (length (now a) ≤ 131072) × Sized l (length (now table)) × (known ≤ l .room) × (now arities ≡ arityColumn) × (h ≡ getD (now shapes) n 0) × (l .places ≡ placesOf h) ⌝ }
     ensures { λ r. ⌜ EndsCalls (now (a .entry)) (now (shapes .entry)) n l known (now (table .entry)) (now (table .exit)) r ⌝ }

@@ -10,7 +10,7 @@ use Rattle.limits.specs.Limits.{maxArity, maxDeclarations, maxDefinitions, maxN
 use Rattle.theory.proofs.Size.{sizes}
 use Rattle.theory.specs.Term.{Kind, Term, WellFormed, constant, kindArity, variable}
 use Rattle.symbols.specs.Symbol.{Symbol, size}
-use Rattle.symbols.specs.Spell.{spell}
+use Rattle.symbols.specs.Spell.{maxParams, spell}
 use Rattle.rules.specs.State.{State, paramsOf}
 use Rattle.tokens.specs.Expr.{Found, exprAt}
 use Rattle.texts.specs.Text.{Declarations, noDeclaration}
@@ -37,7 +37,7 @@ use Rattle.unfolding.specs.Unfolding.{UnfoldsBy, UnfoldsText}
 use Rattle.unfolding.proofs.ChainLevels.{inside}
 use Rattle.unfolding.proofs.Callees.{own-text, standin-by}
 use Rattle.unfolding.proofs.Narrowed.{near-known, nearArities, own-few, own-narrow, standin-few, standin-narrow}
-use Rattle.spelling.specs.Strings.{ImpliedString, NamesShown, Narrow, ShapesFit, Spells, TextString, shapesOf}
+use Rattle.spelling.specs.Strings.{ImpliedString, NamesShown, Narrow, ShapesFit, Spells, TextString, growth, shapesOf}
 use Rattle.spelling.proofs.Narrowing.{narrow-formed}
 use Rattle.spelling.proofs.Short.{implied-short, text-short}
 use Rattle.callees.specs.Results.{Clamped, LinkString, OwnString, StandInString, Strung, SubstituteString, SubstitutedBy, impliedBytes}
@@ -53,7 +53,7 @@ count-kind (constant n) h = rw (le-leb n maxArity h) refl
 count-kind variable h = refl
 
 -- the calls and parameters of what stands for a call are such as a string can hold
-narrow-near : (s : State) (decls : Declarations) (w : World) (m : ℕ) (t : Term) (σ : ℕ → ℕ) → WellFormed (nearArities s decls w) m 0 t → m ≤ 6 → Narrow (spell σ t)
+narrow-near : (s : State) (decls : Declarations) (w : World) (m : ℕ) (t : Term) (σ : ℕ → ℕ) → WellFormed (nearArities s decls w) m 0 t → m ≤ maxParams → Narrow (spell σ t)
 narrow-near s decls w m t σ f h = narrow-formed σ (nearArities s decls w) m (near-known s decls w) (omega arith) t 0 f
 
 module _ (file refs names declared shapes : List ℕ) (s : State) (decls : Declarations) (w : World) (D call m l outer : ℕ) (row : List ℕ) (end : ℕ) (out : List ℕ)
@@ -76,7 +76,7 @@ module _ (file refs names declared shapes : List ℕ) (s : State) (decls : Decla
           x .string decls (u .text) (u .next) (u .stands) (u .below) few-declared shown shapes-fit
           (subst (λ (f : Found). Narrow (spell (shapesOf shapes) (foundTerm (byRefs refs) decls (placeAt l outer row) f))) (u .stands) narrow)
 
-      short : 2 * end ≤ room → size (spell (shapesOf shapes) (termIn (byRefs refs) decls (placeAt l outer row) (u .text))) ≤ room
+      short : growth * end ≤ 2 * room → size (spell (shapesOf shapes) (termIn (byRefs refs) decls (placeAt l outer row) (u .text))) ≤ room
       short h =
           omega (arith, text-short (shapesOf shapes) decls (placeAt l outer row) params (byRefs refs) maxNesting file at (u .text) (u .next) (u .stands), u .inside)
 
@@ -122,7 +122,7 @@ pub own-string : (file refs names facts declared numbers currents outers shapes 
     → TextString file refs names declared row shapes at k outer out room fits len
     → OwnString file refs names facts declared numbers currents outers shapes k out room fits len
 own-string file refs names facts declared numbers currents outers shapes k cur outer at row out room fits len a b p q x =
-    record { string = string }
+    record { told = x .told; string = string }
   where
     string : (contexts orders heads : List ℕ) (n D : ℕ) (c : Counts) (s : State) (rs : List Row) (decls : Declarations) (end : ℕ)
         (ready : Ready file refs (store names facts contexts orders heads) declared n c s rs decls end) → D < c .definitions → n ≤ maxDeclarations

@@ -2,11 +2,12 @@
 use mathlib.Core.Bool.{Bool, true}
 use mathlib.Core.List.{List}
 use mathlib.Core.Path.{_≡_}
-use Prim.Native.Nat.{ℕ, suc, _*_, _≤_, _<_}
+use Prim.Native.Nat.{ℕ, suc, _+_, _*_, _≤_, _<_}
+use lib.Dec.{leb}
 use lib.ListN.{getD}
 use Rattle.limits.specs.Limits.{maxDeclarations}
 use Rattle.theory.specs.Term.{Term}
-use Rattle.symbols.specs.Spell.{spell}
+use Rattle.symbols.specs.Spell.{maxParams, spell}
 use Rattle.rules.specs.State.{State}
 use Rattle.texts.specs.Text.{Declarations}
 use Rattle.context.specs.Store.{kindAt, store}
@@ -22,24 +23,26 @@ use Rattle.chains.specs.Walk.{codeAt, siteOf, stepFits}
 use Rattle.chains.proofs.Knowing.{NamedIn}
 use Rattle.unfolding.specs.CalleeTerm.{Entered, ownTerm, standInTerm}
 use Rattle.unfolding.specs.StandIn.{outermost}
-use Rattle.spelling.specs.Strings.{ImpliedString, ShapesFit, Spells, TextString, shapesOf}
+use Rattle.spelling.specs.Strings.{ImpliedString, ShapesFit, Spells, TextString, growth, shapesOf}
 
 -- a number that is at most the bound, the one given where that is
 pub record Clamped (bound x r : ℕ) : Type 0 where
   pub small : r ≤ bound
   pub same : x ≤ bound → r ≡ x
 
--- the longest string of what a name means: its own four bytes, or a call's two and three parameters', and three arguments'
+-- the longest string of what a name means: a call's two bytes, and two for each parameter around it and for each argument
 abbrev pub impliedBytes : ℕ
-impliedBytes = 14
+impliedBytes = 2 + 2 * maxParams
 
--- The string of a term stands at the start of the memory, or there was no room. There is room in memory twice as long as the file up to `end`.
+-- The string of a term stands at the start of the memory, or there was no room. There is room if the memory has growth for every two bytes of the
+-- file up to `end`.
 pub record Strung (t : Term) (shapes : List ℕ) (end : ℕ) (out : List ℕ) (room : ℕ) (fits : Bool) (len : ℕ) : Type 0 where
   pub spells : Spells (spell (shapesOf shapes) t) out room fits len
-  pub whole : 2 * end ≤ room → impliedBytes ≤ room → fits ≡ true
+  pub whole : growth * end ≤ 2 * room → impliedBytes ≤ room → fits ≡ true
 
 -- the string of the text at the end of the chain that the arrays hold, whatever stands
 pub record OwnString (file refs names facts declared numbers currents outers shapes : List ℕ) (k : ℕ) (out : List ℕ) (room : ℕ) (fits : Bool) (len : ℕ) : Type 0 where
+  pub told : fits ≡ leb len room
   pub string : (contexts orders heads : List ℕ) (n D : ℕ) (c : Counts) (s : State) (rs : List Row) (decls : Declarations) (end : ℕ)
       (ready : Ready file refs (store names facts contexts orders heads) declared n c s rs decls end) → D < c .definitions → n ≤ maxDeclarations
       → Entered s rs (ready .worlds .runs) facts D k numbers currents outers → ShapesFit shapes

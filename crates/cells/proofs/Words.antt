@@ -64,7 +64,7 @@ module _ (stride : ℕ) where
           below l n = omega arith
 
 -- it is in the table
-pub cell-inside : (l : Layout) (bytes r i : ℕ) → Sized l bytes → r < l .room → i < l .stride → (4 * (r * l .stride + i) + 3 < bytes) × (r * l .stride + i < 2 ^ 18)
+pub cell-inside : (l : Layout) (bytes r i : ℕ) → Sized l bytes → r < l .room → i < l .stride → (4 * (r * l .stride + i) + 3 < bytes) × (r * l .stride + i < 2 ^ 19)
 cell-inside l bytes r i z h k =
     let a : suc r * l .stride ≤ l .room * l .stride = mul-le-mul-right (l .stride) h in
     let b : l .room * l .stride ≤ 16383 * l .stride = mul-le-mul-right (l .stride) (z .small) in

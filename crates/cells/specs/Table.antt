@@ -3,10 +3,10 @@ use mathlib.Core.Bool.{Bool, cond, false, true}
 use mathlib.Core.List.{List, [], _++_, _∷_}
 use mathlib.Core.Path.{_≡_}
 use Prim.Native.Nat.{ℕ, _+_, _*_, _≤_, _<_, min}
-use lib.Dec.{eqb, leb}
+use lib.Dec.{eqb}
 use lib.ListN.{getD, length}
 use Rattle.symbols.specs.Pieces.{Shaped}
-use Rattle.symbols.specs.Spell.{spell}
+use Rattle.symbols.specs.Spell.{maxParams, spell}
 use Rattle.symbols.specs.Symbol.{Spelt, Symbol, call, calls, size}
 use Rattle.theory.specs.Term.{Term}
 use Rattle.strings.specs.Read.{far, stringAt}
@@ -19,17 +19,17 @@ abbrev pub tally : ℕ → List Symbol → ℕ
 tally n [] = 0
 tally n (g ∷ gs) = cond (calls (eqb n) g) 1 0 + tally n gs
 
--- how many arguments a shape speaks of: one more than the highest whose bit is set
-abbrev pub placesOf : ℕ → ℕ
-placesOf h = cond (leb 32 h) 6 (cond (leb 16 h) 5 (cond (leb 8 h) 4 (cond (leb 4 h) 3 (cond (leb 2 h) 2 (cond (leb 1 h) 1 0)))))
+-- the words of a call at most, in bytes: a place where each argument begins, one where the last ends, and two for a run
+abbrev pub rowBytes : ℕ
+rowBytes = 4 * (maxParams + 3)
 
 -- there are words for `room` calls
 pub record Sized (l : Layout) (bytes : ℕ) : Type 0 where
-  pub few : l .places ≤ 6
+  pub few : l .places ≤ maxParams
   pub wide : l .stride ≡ l .places + 3
   pub fits : 4 * (l .room * l .stride) ≤ bytes
   pub small : l .room ≤ 16383
-  pub some : 36 ≤ bytes → 0 < l .room
+  pub some : rowBytes ≤ bytes → 0 < l .room
 
 -- a place and the calls before it in one word
 abbrev pub packed : ℕ → ℕ → ℕ

@@ -5,8 +5,11 @@ ghost use Prim.Native.Nat.{_+_, _*_, _/_, _%_, _^_, _<_, _≤_, max, min};
 ghost use lib.Dec.{ltb};
 ghost use lib.ListN.{length};
 ghost use lib.Seq.{sets};
-ghost use Rattle.cells.specs.Table.{Sized, placesOf};
+ghost use Rattle.symbols.specs.Spell.{maxParams};
+ghost use Rattle.rewriting.specs.Ends.{placesOf};
+ghost use Rattle.cells.specs.Table.{Sized};
 ghost use Rattle.cells.specs.Words.{four, wordAt};
+use symbols::Shape;
 use tokens::number_at;
 
 // How the table is laid out: each call has `stride` words; the places where its arguments begin, each beginning where the one before it
@@ -45,25 +48,19 @@ pub fn put_word(s: &mut [u8], i: usize, v: usize)
 }
 
 // How many arguments a shape speaks of: one more than the highest whose bit is set.
-fn places_of(h: u8) -> usize
-    ensures { λ r. ⌜ (r ≡ placesOf h) × (r ≤ 6) ⌝ }
+fn places_of(h: u32) -> usize
+    ensures { λ r. ⌜ (r ≡ placesOf h) × (r ≤ maxParams) ⌝ }
 {
-    if 32 <= h {
-        return 6;
+    let mut rest = h;
+    let mut k: usize = 0;
+    while k < Shape::PARAMS {
+        if rest == 0 {
+            return k;
+        }
+        rest = rest / 2;
+        k += 1;
     }
-    if 16 <= h {
-        return 5;
-    }
-    if 8 <= h {
-        return 4;
-    }
-    if 4 <= h {
-        return 3;
-    }
-    if 2 <= h {
-        return 2;
-    }
-    if 1 <= h { 1 } else { 0 }
+    k
 }
 
 fn lesser(a: usize, b: usize) -> usize
@@ -73,7 +70,7 @@ fn lesser(a: usize, b: usize) -> usize
 }
 
 // The layout of a table of so many bytes, for calls of shape h.
-pub fn layout_of(h: u8, bytes: usize) -> Layout
+pub fn layout_of(h: u32, bytes: usize) -> Layout
     requires { ⌜ bytes < 2 ^ 48 ⌝ }
     ensures { λ r. ⌜ (r .places ≡ placesOf h) × Sized r bytes ⌝ }
 {

@@ -19,7 +19,8 @@ use Rattle.rewriting.proofs.Standing.{over-done}
 use Rattle.rewriting.proofs.Step.{stands-shaped}
 use Rattle.rewriting.specs.Going.{Over}
 use Rattle.rewriting.specs.Rewritten.{Posed, Replaced, Rewritten, Task, Templated}
-use Rattle.cells.specs.Table.{EndsCalls, Noted, Sized, placesOf, tally}
+use Rattle.rewriting.specs.Ends.{placesOf}
+use Rattle.cells.specs.Table.{EndsCalls, Noted, Sized, rowBytes, tally}
 use Rattle.cells.specs.declared.Layout.{Layout}
 use Rattle.streaming.specs.Step.{Read, Written}
 use Rattle.replacing.proofs.Tasks.{again, kept-first, kept-through, posed-again, replaced-all, replaced-through}
@@ -38,7 +39,7 @@ tally-none n (g ∷ gs) e = one-none (calls (eqb n) g) (any (calls (eqb n)) gs) 
 
 module _ (a template : List ℕ) (tlen : ℕ) (shapes : List ℕ) (n : ℕ) where
   -- no call was found
-  pub round-none : (out : List ℕ) (l : Layout) (bytes found : ℕ) (r : Round) → Sized l bytes → 36 ≤ bytes → found ≡ min (l .room) (tally n (stringAt a 0 (length a))) → found ≡ 0 → r .calls ≡ found
+  pub round-none : (out : List ℕ) (l : Layout) (bytes found : ℕ) (r : Round) → Sized l bytes → rowBytes ≤ bytes → found ≡ min (l .room) (tally n (stringAt a 0 (length a))) → found ≡ 0 → r .calls ≡ found
       → r .told ≡ true → r .fits ≡ true → r .len ≡ 0 → Rounded a template tlen shapes n out out r
   round-none out l bytes found r sized room is none e told fits len =
       record {

@@ -9,7 +9,8 @@ ghost use Rattle.rows.specs.Rows.{arityColumn};
 ghost use Rattle.rewriting.specs.Rewritten.{Rewritten};
 ghost use Rattle.replacing.specs.Round.{NotedRan, RanOn, Rounded, StepsIn, TurnedTo};
 ghost use Rattle.streaming.specs.Step.{Sane};
-ghost use Rattle.cells.specs.Table.{Sized, placesOf};
+ghost use Rattle.rewriting.specs.Ends.{placesOf};
+ghost use Rattle.cells.specs.Table.{Sized, rowBytes};
 use call_table::end_calls;
 use call_table::note_calls;
 use cells::Layout;
@@ -130,12 +131,12 @@ fn replace_noted(
     n: u16,
     template: &[u8],
     tlen: usize,
-    shapes: &[u8],
+    shapes: &[u32],
     arities: &[u8],
     table: &mut [u8],
     l: Layout,
     known: usize,
-    h: u8,
+    h: u32,
     env: &mut [u16],
     out: &mut [u8],
 ) -> Told
@@ -165,16 +166,16 @@ fn one_round(
     n: u16,
     template: &[u8],
     tlen: usize,
-    shapes: &[u8],
+    shapes: &[u32],
     arities: &[u8],
     table: &mut [u8],
     env: &mut [u16],
     out: &mut [u8],
 ) -> Round
-    requires { ⌜ (length (now a) ≤ 131072) × (36 ≤ length (now table)) × (length (now table) < 2 ^ 48) × (now arities ≡ arityColumn) × (tlen ≤ 1024) ⌝ }
+    requires { ⌜ (length (now a) ≤ 131072) × (rowBytes ≤ length (now table)) × (length (now table) < 2 ^ 48) × (now arities ≡ arityColumn) × (tlen ≤ 1024) ⌝ }
     ensures { λ r. ⌜ Rounded (now (a .entry)) (now (template .entry)) tlen (now (shapes .entry)) n (now (out .entry)) (now (out .exit)) r ⌝ }
 {
-    let h = tokens::byte_at(shapes, n as usize);
+    let h = symbols::shape_at(shapes, n as usize);
     let l = layout_of(h, table.len());
     let calls = note_calls(a, n, table, l);
     if calls == 0 {
@@ -214,13 +215,13 @@ fn first_round(
     n: u16,
     template: &[u8],
     tlen: usize,
-    shapes: &[u8],
+    shapes: &[u32],
     arities: &[u8],
     table: &mut [u8],
     env: &mut [u16],
     out: &mut [u8],
 ) -> Round
-    requires { ⌜ (size ≤ length (now a)) × (length (now a) ≤ 131072) × (36 ≤ length (now table)) × (length (now table) < 2 ^ 48) × (now arities ≡ arityColumn) × (tlen ≤ 1024) ⌝ }
+    requires { ⌜ (size ≤ length (now a)) × (length (now a) ≤ 131072) × (rowBytes ≤ length (now table)) × (length (now table) < 2 ^ 48) × (now arities ≡ arityColumn) × (tlen ≤ 1024) ⌝ }
     ensures { λ r. ⌜ Rounded (take size (now (a .entry))) (now (template .entry)) tlen (now (shapes .entry)) n (now (out .entry)) (now (out .exit)) r ⌝ }
 {
     one_round(
@@ -250,13 +251,13 @@ fn turn(
     n: u16,
     template: &[u8],
     tlen: usize,
-    shapes: &[u8],
+    shapes: &[u32],
     arities: &[u8],
     table: &mut [u8],
     env: &mut [u16],
     filled: &mut [u8],
 ) -> Left
-    requires { ⌜ (size ≤ length (now a)) × (length (now a) ≡ length (now filled)) × (length (now filled) ≤ 131072) × (36 ≤ length (now table)) × (length (now table) < 2 ^ 48) × (now arities ≡ arityColumn) × (tlen ≤ 1024) ⌝ }
+    requires { ⌜ (size ≤ length (now a)) × (length (now a) ≡ length (now filled)) × (length (now filled) ≤ 131072) × (rowBytes ≤ length (now table)) × (length (now table) < 2 ^ 48) × (now arities ≡ arityColumn) × (tlen ≤ 1024) ⌝ }
     ensures { λ r. ⌜ TurnedTo (now (a .entry)) size n (now (template .entry)) tlen (now (shapes .entry)) (now (a .exit)) r ⌝ }
 {
     let r = first_round(
@@ -308,13 +309,13 @@ fn rounds(
     n: u16,
     template: &[u8],
     tlen: usize,
-    shapes: &[u8],
+    shapes: &[u32],
     arities: &[u8],
     table: &mut [u8],
     env: &mut [u16],
     filled: &mut [u8],
 ) -> Filled
-    requires { ⌜ (len ≤ length (now a)) × (length (now a) ≡ length (now filled)) × (length (now filled) ≤ 131072) × (36 ≤ length (now table)) × (length (now table) < 2 ^ 48) × (now arities ≡ arityColumn) × (tlen ≤ 1024) ⌝ }
+    requires { ⌜ (len ≤ length (now a)) × (length (now a) ≡ length (now filled)) × (length (now filled) ≤ 131072) × (rowBytes ≤ length (now table)) × (length (now table) < 2 ^ 48) × (now arities ≡ arityColumn) × (tlen ≤ 1024) ⌝ }
     ensures { λ r. ⌜ Rewritten (now (a .entry)) len n (now (template .entry)) tlen (now (shapes .entry)) (now (a .exit)) r ⌝ }
 {
     let mut size = len;
@@ -352,7 +353,7 @@ fn rewrite_with(
     n: u16,
     template: &mut [u8],
     tlen: usize,
-    shapes: &[u8],
+    shapes: &[u32],
     arities: &[u8],
     small: &mut [u8],
     env: &mut [u16],
@@ -382,7 +383,7 @@ fn rewrite_short(
     n: u16,
     template: &mut [u8],
     tlen: usize,
-    shapes: &[u8],
+    shapes: &[u32],
     filled: &mut [u8],
 ) -> Filled
     requires { ⌜ (len ≤ length (now a)) × (length (now a) ≡ length (now filled)) × (length (now filled) ≤ 131072) × (tlen ≤ 1024) × (1024 ≤ length (now template)) × (length (now template) < 2 ^ 48) ⌝ }
@@ -414,7 +415,7 @@ pub fn rewrite(
     n: u16,
     template: &mut [u8],
     tlen: usize,
-    shapes: &[u8],
+    shapes: &[u32],
     filled: &mut [u8],
 ) -> Filled
     requires { ⌜ (len ≤ length (now a)) × (length (now a) ≡ length (now filled)) × (length (now filled) ≤ 131072) × (length (now template) < 2 ^ 48) ⌝ }

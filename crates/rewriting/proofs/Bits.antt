@@ -2,16 +2,16 @@
 use mathlib.Core.Bool.{Bool, _||_, cond, false, true}
 use mathlib.Core.List.{List, [], _++_, _∷_}
 use mathlib.Core.Path.{_∙_, _≡_, ap, refl, sym}
-use borrow.Author.Tests.{eq-eqb}
+use borrow.Author.Tests.{eq-eqb, eqb-true}
 use lib.Dec.{eqb, ltb}
 use lib.ListN.{getD}
 use native.Mathlib.Nat.{add-zero}
 use native.Mathlib.Omega.{arith}
-use Prim.Native.Nat.{ℕ, zero, suc, _+_, _-_, _*_, _/_, _%_, _^_, _<_}
+use Prim.Native.Nat.{ℕ, zero, suc, _+_, _-_, _*_, _/_, _%_, _^_, _<_, _≤_}
 use Rattle.strings.specs.Read.{soleOf}
 use Rattle.symbols.proofs.Sizes.{any-append, any-right}
 use Rattle.symbols.specs.Pieces.{ShapedHead}
-use Rattle.symbols.specs.Spell.{maskOf, masked, occurring, shapeOf, spell}
+use Rattle.symbols.specs.Spell.{aloneShape, maskOf, masked, maxParams, occurring, shapeOf, spell}
 use Rattle.symbols.specs.Symbol.{Symbol, after, begin, call, calls, code, end, fill, fillOne, isPar, move, moveOne, name, number, par, sees, var}
 use Rattle.theory.proofs.Lists.{or-false}
 use Rattle.theory.specs.Expand.{nothing}
@@ -19,7 +19,7 @@ use Rattle.theory.specs.Level.{bindsIn, plain}
 use Rattle.theory.specs.Lists.{any}
 use Rattle.theory.specs.Term.{Every, Everys, Term, Terms, bound, builtin, declared, defined, leaf, literal, param}
 use Rattle.theory.specs.Tree.{_▹_, count, node, nth, ⟨⟩}
-use Rattle.rewriting.specs.Ends.{bitAt}
+use Rattle.rewriting.specs.Ends.{bitAt, placesIn, placesOf}
 use Rattle.unfolding.proofs.Masks.{bit-below, mask-alone, masked-first, masked-later}
 
 pub half : (b : Bool) (o : ℕ) → (cond b 1 0 + 2 * o) / 2 ≡ o
@@ -115,17 +115,17 @@ Starts (call n ∷ gs) = Unit {0}
 Starts (begin ∷ gs) = Unit {0}
 Starts (end ∷ gs) = Unit {0}
 
-starts-call : (σ : ℕ → ℕ) (n : ℕ) (ts : Terms) (b : Bool) → ltb (σ n) 64 ≡ b → (b ≡ false → Starts (masked σ (maskOf (σ n)) ts))
+starts-call : (σ : ℕ → ℕ) (n : ℕ) (ts : Terms) (b : Bool) → ltb (σ n) aloneShape ≡ b → (b ≡ false → Starts (masked σ (maskOf (σ n)) ts))
     → Starts (cond b (call n ∷ []) [] ++ masked σ (maskOf (σ n)) ts)
 starts-call σ n ts true e f = tt
 starts-call σ n ts false e f = f refl
 
-passed : (σ : ℕ → ℕ) (n : ℕ) (ts : Terms) → maskOf (σ n) < 2 ^ count ts → ((j : ℕ) → j < count ts → Starts (masked σ (2 ^ j) ts)) → ltb (σ n) 64 ≡ false
+passed : (σ : ℕ → ℕ) (n : ℕ) (ts : Terms) → maskOf (σ n) < 2 ^ count ts → ((j : ℕ) → j < count ts → Starts (masked σ (2 ^ j) ts)) → ltb (σ n) aloneShape ≡ false
     → Starts (masked σ (maskOf (σ n)) ts)
 passed σ n ts b f e =
-    let z : maskOf (σ n) ≡ 2 ^ (σ n - 64) = mask-alone (σ n) e in
-    let l : σ n - 64 < count ts = bit-below (σ n - 64) (count ts) (rw z at b) in
-    rw z (f (σ n - 64) l)
+    let z : maskOf (σ n) ≡ 2 ^ (σ n - aloneShape) = mask-alone (σ n) e in
+    let l : σ n - aloneShape < count ts = bit-below (σ n - aloneShape) (count ts) (rw z at b) in
+    rw z (f (σ n - aloneShape) l)
 
 mutual
   pub starts : (t : Term) (σ : ℕ → ℕ) (k : ℕ) → Every (ShapedHead σ) k t → Starts (spell σ t)
@@ -133,7 +133,7 @@ mutual
   starts (node (bound j) ts) σ k w = tt
   starts (node (declared d x) ts) σ k w = tt
   starts (node (defined n) ts) σ k w =
-      starts-call σ n ts (ltb (σ n) 64) refl (λ f. passed σ n ts (w .0 .0) (λ j l. starts-one ts σ j k (bindsIn plain) l (w .1)) f)
+      starts-call σ n ts (ltb (σ n) aloneShape) refl (λ f. passed σ n ts (w .0 .0) (λ j l. starts-one ts σ j k (bindsIn plain) l (w .1)) f)
   starts (node (builtin c) ts) σ k w = tt
   starts (node (leaf (literal v)) ts) σ k w = tt
 
@@ -150,7 +150,7 @@ pub record Begins (n : ℕ) (gs : List Symbol) : Type 0 where
   pub other : calls (eqb n) first ≡ false
   pub sole : soleOf (first ∷ []) ≡ 0
 
-pub fill-begins : (n : ℕ) (args : List (List Symbol)) (gs : List Symbol) → Starts gs → shapeOf gs < 64 → any (calls (eqb n)) gs ≡ false → Begins n (fill args 0 gs)
+pub fill-begins : (n : ℕ) (args : List (List Symbol)) (gs : List Symbol) → Starts gs → shapeOf gs < aloneShape → any (calls (eqb n)) gs ≡ false → Begins n (fill args 0 gs)
 fill-begins n args [] s l f = absurd s
 fill-begins n args (par i ∷ []) s l f = absurd (omega arith)
 fill-begins n args (par i ∷ g ∷ gs) s l f = absurd s
@@ -164,7 +164,7 @@ fill-begins n args (begin ∷ gs) s l f = record { first = begin; more = fill ar
 fill-begins n args (end ∷ gs) s l f = record { first = end; more = fill args 0 gs; whole = refl; other = refl; sole = refl }
 
 -- the shape of what is no parameter alone is the bits of those that occur
-pub shape-bits : (gs : List Symbol) → shapeOf gs < 64 → shapeOf gs ≡ occurring 6 0 gs
+pub shape-bits : (gs : List Symbol) → shapeOf gs < aloneShape → shapeOf gs ≡ occurring maxParams 0 gs
 shape-bits [] l = refl
 shape-bits (par i ∷ []) l = absurd (omega arith)
 shape-bits (par i ∷ g ∷ gs) l = refl
@@ -175,3 +175,27 @@ shape-bits (number v ∷ gs) l = refl
 shape-bits (call k ∷ gs) l = refl
 shape-bits (begin ∷ gs) l = refl
 shape-bits (end ∷ gs) l = refl
+
+-- a shape speaks of no more arguments than it has places, and those are not more than there may be
+places-few : (f h : ℕ) → placesIn f h ≤ f
+places-few zero h = omega arith
+places-few (suc f) h = go (eqb h 0) (places-few f (h / 2))
+  where
+    go : (b : Bool) → placesIn f (h / 2) ≤ f → cond b 0 (suc (placesIn f (h / 2))) ≤ suc f
+    go true l = omega arith
+    go false l = omega arith
+
+places-enough : (f h : ℕ) → h < 2 ^ f → h < 2 ^ placesIn f h
+places-enough zero h l = l
+places-enough (suc f) h l = go (eqb h 0) refl (places-enough f (h / 2) (omega arith))
+  where
+    go : (b : Bool) → eqb h 0 ≡ b → h / 2 < 2 ^ placesIn f (h / 2) → h < 2 ^ cond b 0 (suc (placesIn f (h / 2)))
+    go true e k = omega (arith, eqb-true h 0 e)
+    go false e k = doubled (placesIn f (h / 2)) k
+      where
+        doubled : (p : ℕ) → h / 2 < 2 ^ p → h < 2 ^ suc p
+        doubled p q = omega arith
+
+pub places-cover : (h : ℕ) → h < aloneShape → (h < 2 ^ placesOf h) × (placesOf h ≤ maxParams)
+unfolding placesOf
+places-cover h l = (places-enough maxParams h l, places-few maxParams h)

@@ -1,6 +1,6 @@
 -- What each function gives, case by case, over plain values.
 use mathlib.Core.Bool.{Bool, false, true}
-use mathlib.Core.List.{List, [], _∷_}
+use mathlib.Core.List.{List}
 use mathlib.Core.Logic.{inl, inr}
 use mathlib.Core.Path.{_∙_, _≡_, ap, refl, subst, sym}
 use borrow.Author.Tests.{eq-eqb, ne-eqb}
@@ -17,14 +17,15 @@ use Rattle.strings.specs.declared.Sign.the-variants.{Call}
 use Rattle.symbols.specs.Pieces.{scan}
 use Rattle.symbols.specs.Symbol.{Symbol, calls, fill}
 use Rattle.theory.proofs.Lists.{never}
+use Rattle.rewriting.proofs.Bounding.{arguments-same}
 use Rattle.rewriting.proofs.Standing.{all-done, carried, moved-right, no-fill, no-room, over-done, replaced-going}
-use Rattle.rewriting.specs.Ends.{endOf, endsFrom, lastFrom, startsFrom}
-use Rattle.rewriting.specs.Filling.{FilledCall, Six, argumentsOf, filledOf}
+use Rattle.rewriting.specs.Ends.{endOf, lastFrom}
+use Rattle.rewriting.specs.Filling.{Bounds, FilledCall, argumentsOf, filledOf}
 use Rattle.rewriting.specs.Going.{AtRight, Carried, Cleared, Ended, Ending, Turned, Turning}
 use Rattle.rewriting.specs.Rewritten.{Rewritten}
 use Rattle.rewriting.specs.declared.Moved.{Moved}
 use Rattle.rewriting.specs.declared.Part.{Part}
-use Rattle.rewriting.specs.declared.Places.{Places}
+use Rattle.symbols.specs.Spell.{maxParams}
 
 -- is_call
 pub same-number : (n k : ℕ) (g : Sign) → g ≡ Call k → eqb n k ≡ calls (eqb n) (symbolOf g)
@@ -40,29 +41,16 @@ unfolding endOf
 end-no a shapes h at e = rw (ne-eqb (h % 2) 1 e)
 
 -- fill_call
-pub call-filled : (a : List ℕ) (at h : ℕ) (template : List ℕ) (tlen : ℕ) (shapes before after : List ℕ) (s : Places) (f : Filled) → Six a shapes h at s
-    → Laid
-    (fill (argumentsAt a (at ∷ s .e0 ∷ s .e1 ∷ s .e2 ∷ s .e3 ∷ s .e4 ∷ []) (s .e0 ∷ s .e1 ∷ s .e2 ∷ s .e3 ∷ s .e4 ∷ s .e5 ∷ [])) 0 (stringAt template 0 tlen))
-    0 before after f
-    → FilledCall a at h template tlen shapes before after (record { fits = f .fits; len = f .len; end = s .e5 })
-call-filled a at h template tlen shapes before after s f w l =
+pub call-filled : (a : List ℕ) (at h : ℕ) (template : List ℕ) (tlen : ℕ) (shapes before after bounds : List ℕ) (f : Filled) → Bounds a shapes h at bounds
+    → Laid (fill (argumentsAt a bounds) 0 (stringAt template 0 tlen)) 0 before after f
+    → FilledCall a at h template tlen shapes before after (record { fits = f .fits; len = f .len; end = getD bounds maxParams 0 })
+call-filled a at h template tlen shapes before after bounds f b l =
+    let p : Laid (fill (argumentsOf a shapes h at) 0 (stringAt template 0 tlen)) 0 before after f =
+    subst (λ (args : List (List Symbol)). Laid (fill args 0 (stringAt template 0 tlen)) 0 before after f) (arguments-same a shapes h at bounds b) l in
     record {
       laid = record { long = p .long; within = p .within; yes = p .yes; no = p .no };
-      last = last;
+      last = b .each maxParams (omega arith);
     }
-  where
-    starts : at ∷ s .e0 ∷ s .e1 ∷ s .e2 ∷ s .e3 ∷ s .e4 ∷ [] ≡ startsFrom a shapes 6 h at
-    starts = rw (w .at4, w .at3, w .at2, w .at1, w .at0) refl
-
-    ends : s .e0 ∷ s .e1 ∷ s .e2 ∷ s .e3 ∷ s .e4 ∷ s .e5 ∷ [] ≡ endsFrom a shapes 6 h at
-    ends = rw (w .at5, w .at4, w .at3, w .at2, w .at1, w .at0) refl
-
-    last : s .e5 ≡ lastFrom a shapes 6 h at
-    last = rw (w .at5, w .at4, w .at3, w .at2, w .at1, w .at0) refl
-
-    p : Laid (fill (argumentsOf a shapes h at) 0 (stringAt template 0 tlen)) 0 before after f
-    p = subst (λ (z : List ℕ). Laid (fill (argumentsAt a z (endsFrom a shapes 6 h at)) 0 (stringAt template 0 tlen)) 0 before after f) starts
-        (subst (λ (z : List ℕ). Laid (fill (argumentsAt a (at ∷ s .e0 ∷ s .e1 ∷ s .e2 ∷ s .e3 ∷ s .e4 ∷ []) z) 0 (stringAt template 0 tlen)) 0 before after f) ends l)
 
 -- end_at
 module _ (q : ℕ) (filled : List ℕ) (n end : ℕ) (a : List ℕ) where
@@ -101,8 +89,8 @@ module _ (n : ℕ) (template : List ℕ) (tlen : ℕ) (shapes : List ℕ) (q p :
         no = λ t x w y. no-room n template tlen shapes x w a q p y l c before filled (filledOf s) laid g a′ r ending t;
       }
     where
-      ending : Ending q filled (s .len) (lastFrom a shapes 6 (getD shapes n 0) (p + 2)) a a′ r
-      ending = subst (λ (z : ℕ). Ending q filled (s .len) z a a′ r) (f .last ∙ ap (λ (i : ℕ). lastFrom a shapes 6 i (p + 2)) hs) e
+      ending : Ending q filled (s .len) (lastFrom a shapes maxParams (getD shapes n 0) (p + 2)) a a′ r
+      ending = subst (λ (z : ℕ). Ending q filled (s .len) z a a′ r) (f .last ∙ ap (λ (i : ℕ). lastFrom a shapes maxParams i (p + 2)) hs) e
 
 -- cleared
 pub call-here : (n : ℕ) (g : Symbol) (a : List ℕ) (p : ℕ) (b : Bool) → b ≡ calls (eqb n) g → g ≡ symbolAt a p → b ≡ true → calls (eqb n) (symbolAt a p) ≡ true

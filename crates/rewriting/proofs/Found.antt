@@ -3,7 +3,7 @@ use mathlib.Core.Bool.{Bool, cond, false, true}
 use mathlib.Core.List.{List, [], _++_, _∷_, append-assoc}
 use mathlib.Core.Path.{_∙_, _≡_, ap, refl, subst, sym}
 use lib.Dec.{eqb}
-use lib.ListN.{getD, length, length-append}
+use lib.ListN.{length, length-append}
 use native.Mathlib.Nat.{add-zero}
 use native.Mathlib.Omega.{arith}
 use Prim.Native.Nat.{ℕ, zero, suc, _+_, _/_, _%_, _^_, _<_, _≤_}
@@ -20,7 +20,7 @@ use Rattle.theory.specs.Expand.{nothing}
 use Rattle.theory.specs.Term.{Every, Everys, Term, Terms}
 use Rattle.theory.specs.Tree.{_▹_, count, nth, ⟨⟩}
 use Rattle.rewriting.proofs.Bits.{no-bit, none-both}
-use Rattle.rewriting.specs.Ends.{bitAt, endOf, endsFrom, lastFrom, startsFrom}
+use Rattle.rewriting.specs.Ends.{bitAt, endOf, lastFrom}
 
 at-split : (s : List ℕ) (x : ℕ) (xs ys : List ℕ) → At s x (xs ++ ys) → At s x xs × At s (x + length xs) ys
 at-split s x [] ys a = (tt, rw add-zero a)
@@ -80,7 +80,7 @@ front s x (g ∷ gs) y p l f =
 
 -- The arguments whose bits are set stand one after another, and ks after them.
 pub record Found (a shapes : List ℕ) (σ : ℕ → ℕ) (us : Terms) (ks : List Symbol) (k h at : ℕ) : Type 0 where
-  pub each : (i : ℕ) → i < k → bitAt i h ≡ true → stringAt a (getD (startsFrom a shapes k h at) i 0) (getD (endsFrom a shapes k h at) i 0) ≡ spell σ (nth nothing us i)
+  pub each : (i : ℕ) → i < k → bitAt i h ≡ true → stringAt a (lastFrom a shapes i h at) (lastFrom a shapes (suc i) h at) ≡ spell σ (nth nothing us i)
   pub left : Spelt a (lastFrom a shapes k h at) ks (length a)
 
 module _ (a shapes : List ℕ) (σ : ℕ → ℕ) (same : shapeIn shapes ≡ σ) (ks : List Symbol) where
@@ -112,7 +112,7 @@ module _ (a shapes : List ℕ) (σ : ℕ → ℕ) (same : shapeIn shapes ≡ σ)
   one k h at t ts b e f later = record { each = each; left = later .left }
     where
       each : (i : ℕ) → i < suc k → bitAt i h ≡ true
-          → stringAt a (getD (startsFrom a shapes (suc k) h at) i 0) (getD (endsFrom a shapes (suc k) h at) i 0) ≡ spell σ (nth nothing (t ▹ ts) i)
+          → stringAt a (lastFrom a shapes i h at) (lastFrom a shapes (suc i) h at) ≡ spell σ (nth nothing (t ▹ ts) i)
       each zero l c = f (sym e ∙ c)
       each (suc i) l c = later .each i (omega arith) c
 

@@ -12,7 +12,7 @@ use Prim.Native.Nat.{ℕ, zero, suc, _+_, _*_, _/_, _%_, _<_}
 use Rattle.strings.proofs.Turns.{not-sole}
 use Rattle.strings.specs.Read.{soleOf}
 use Rattle.symbols.proofs.Sizes.{any-append, any-left, any-right}
-use Rattle.symbols.specs.Spell.{masked, occurring, shapeOf, spell}
+use Rattle.symbols.specs.Spell.{masked, maxParams, occurring, shapeOf, spell}
 use Rattle.symbols.specs.Symbol.{Symbol, after, begin, call, code, end, fill, fillOne, isPar, move, moveOne, name, number, par, sees, var}
 use Rattle.theory.proofs.Lists.{never}
 use Rattle.theory.specs.Expand.{nothing}
@@ -113,7 +113,7 @@ among i σ (t ▹ ts) h e = go (eqb (h % 2) 1) refl (sees i (spell σ t)) refl e
     go false p s q r more = later (more r)
 
 -- the arguments filled into their text, and the arguments as they stood after the call
-pub filled-sees : (σ : ℕ → ℕ) (us : Terms) (h : ℕ) (args : List (List Symbol)) (gs : List Symbol) → h ≡ occurring 6 0 gs
+pub filled-sees : (σ : ℕ → ℕ) (us : Terms) (h : ℕ) (args : List (List Symbol)) (gs : List Symbol) → h ≡ occurring maxParams 0 gs
     → ((j : ℕ) → sees j gs ≡ true → j < count us) → ((j : ℕ) → sees j gs ≡ true → bitAt j h ≡ true)
     → ((j : ℕ) → sees j gs ≡ true → getD args j [] ≡ spell σ (nth nothing us j)) → (i : ℕ) → sees i (fill args 0 gs) ≡ sees i (masked σ h us)
 filled-sees σ us h args gs e known bits given i = go (sees i (masked σ h us)) refl
@@ -122,7 +122,7 @@ filled-sees σ us h args gs e known bits given i = go (sees i (masked σ h us)) 
     go true q =
         let m : Among i σ us h = among i σ us h q in
         let z : 0 + m .at ≡ m .at = omega arith in
-        let s : sees (m .at) gs ≡ true = ap (λ (k : ℕ). sees k gs) (sym z) ∙ occurring-seen 6 0 (m .at) gs (ap (bitAt (m .at)) (sym e) ∙ m .bit) in
+        let s : sees (m .at) gs ≡ true = ap (λ (k : ℕ). sees k gs) (sym z) ∙ occurring-seen maxParams 0 (m .at) gs (ap (bitAt (m .at)) (sym e) ∙ m .bit) in
         fill-sees i args (m .at) (ap (sees i) (given (m .at) s) ∙ m .seen) gs 0 s
     go false q = fill-unseen i args gs 0 (λ j s. ap (sees i) (given j s) ∙ masked-calls (isPar i) σ us h j (known j s) q (bits j s))
 
@@ -164,5 +164,5 @@ shape-kept n gs ms str ks e b =
     let w : str ++ ks ≡ b .first ∷ (b .more ++ ks) = ap (λ (z : List Symbol). z ++ ks) (b .whole) in
     let s : soleOf (gs ++ (str ++ ks)) ≡ 0 = ap (λ (z : List Symbol). soleOf (gs ++ z)) w ∙ middle gs (b .first) (b .more ++ ks) (b .sole) in
     not-sole (gs ++ (str ++ ks)) s
-    ∙ occurring-same 6 0 (gs ++ (str ++ ks)) (gs ++ (call n ∷ (ms ++ ks))) (λ i. replaced-sees i n gs ms str ks (e i))
+    ∙ occurring-same maxParams 0 (gs ++ (str ++ ks)) (gs ++ (call n ∷ (ms ++ ks))) (λ i. replaced-sees i n gs ms str ks (e i))
     ∙ sym (not-sole (gs ++ (call n ∷ (ms ++ ks))) (middle gs (call n) (ms ++ ks) refl))

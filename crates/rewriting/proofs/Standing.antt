@@ -11,7 +11,6 @@ use native.Mathlib.Nat.{zero-add}
 use native.Mathlib.Decide.{decLt}
 use native.Mathlib.Omega.{arith}
 use Prim.Native.Nat.{ℕ, _+_, _-_, _^_, _<_, _≤_, min}
-use Rattle.strings.proofs.Filling.{argument-at}
 use Rattle.strings.proofs.Reading.{stands, width-some}
 use Rattle.strings.proofs.Standing.{laid-spelt}
 use Rattle.strings.proofs.Written.{paste-above, paste-below, paste-spelt, spelt-same, at-moved}
@@ -20,7 +19,7 @@ use Rattle.strings.specs.Read.{far, isFar, stringAt, symbolAt, widthOf}
 use Rattle.strings.specs.declared.Filled.{Filled}
 use Rattle.symbols.proofs.Filling.{Given, fill-term}
 use Rattle.symbols.proofs.Sizes.{any-left, any-right, size-append, size-first}
-use Rattle.symbols.specs.Spell.{masked, occurring, shapeOf, spell}
+use Rattle.symbols.specs.Spell.{aloneShape, masked, maxParams, occurring, shapeOf, spell}
 use Rattle.symbols.specs.Symbol.{Spelt, Symbol, begin, bytesOf, symbolBytes, call, calls, code, end, fill, isWide, name, number, par, sees, size, var, wide}
 use Rattle.theory.proofs.Lists.{never}
 use Rattle.theory.specs.Expand.{nothing, putIn}
@@ -30,11 +29,12 @@ use Rattle.theory.specs.Term.{Term}
 use Rattle.theory.specs.Tree.{count}
 use Rattle.unfolding.proofs.Shapes.{unseen}
 use Rattle.unfolding.specs.Sense.{Same, Sense}
+use Rattle.rewriting.proofs.Bounding.{argument-of}
 use Rattle.rewriting.proofs.Bits.{Begins, any-none, fill-begins, fill-calls, masked-calls, none-both, occurring-bit, shape-bits, starts}
 use Rattle.rewriting.proofs.Found.{Found, Front, found, front, spelt-join}
 use Rattle.rewriting.proofs.Seen.{filled-sees, shape-kept}
 use Rattle.rewriting.proofs.Step.{Step, stands-shaped, step}
-use Rattle.rewriting.specs.Ends.{bitAt, endsFrom, lastFrom, startsFrom}
+use Rattle.rewriting.specs.Ends.{bitAt, lastFrom}
 use Rattle.rewriting.specs.Filling.{argumentsOf}
 use Rattle.rewriting.specs.Going.{Ending, Going, Kept, Over}
 use Rattle.rewriting.specs.Rewritten.{Posed, Replaced, Task, Templated}
@@ -67,7 +67,7 @@ pub record Opened (n : ℕ) (template : List ℕ) (tlen : ℕ) (shapes : List �
   pub ks : List Symbol
   pub spelt : spell (x .sense .shape) (kept .term) ≡ gs ++ (fill (argumentsOf a shapes (getD shapes n 0) (p + 2)) 0 (stringAt template 0 tlen) ++ ks)
   pub begins : Begins n (fill (argumentsOf a shapes (getD shapes n 0) (p + 2)) 0 (stringAt template 0 tlen))
-  pub left : Spelt a (lastFrom a shapes 6 (getD shapes n 0) (p + 2)) ks (length a)
+  pub left : Spelt a (lastFrom a shapes maxParams (getD shapes n 0) (p + 2)) ks (length a)
 
 module _ (n : ℕ) (template : List ℕ) (tlen : ℕ) (shapes : List ℕ) (x : Task) (w : Templated n template tlen shapes x) (a : List ℕ) (q p : ℕ) where
   -- with the sense's own shapes, once the call has been found
@@ -111,14 +111,14 @@ module _ (n : ℕ) (template : List ℕ) (tlen : ℕ) (shapes : List ℕ) (x : T
       number : count (S .us) ≡ x .arity
       number = S .number
 
-      at-arguments : Found a shapes σ (S .us) (S .ks) 6 h (p + 2)
+      at-arguments : Found a shapes σ (S .us) (S .ks) maxParams h (p + 2)
       at-arguments =
-          found a shapes σ (fun-ext (λ i. sym (w .shaped i))) (S .ks) 6 (S .us) h (p + 2) (S .depth) (bindsIn plain) (omega (arith, number, w .callee .few))
+          found a shapes σ (fun-ext (λ i. sym (w .shaped i))) (S .ks) maxParams (S .us) h (p + 2) (S .depth) (bindsIn plain) (omega (arith, number, w .callee .few))
           (subst (λ (z : ℕ). z < 2 ^ count (S .us)) (w .shaped n) (S .bits)) (S .shaped) (ap far (sym rest) ∙ f)
           (subst (λ (z : List Symbol). Spelt a (p + 2) z (length a)) rest sp)
 
-      bits : h ≡ occurring 6 0 (spell σ T)
-      bits = sym (w .shaped n) ∙ w .callee .shape ∙ shape-bits (spell σ T) (subst (λ (z : ℕ). z < 64) (w .callee .shape) (S .small))
+      bits : h ≡ occurring maxParams 0 (spell σ T)
+      bits = sym (w .shaped n) ∙ w .callee .shape ∙ shape-bits (spell σ T) (subst (λ (z : ℕ). z < aloneShape) (w .callee .shape) (S .small))
 
       known : (i : ℕ) → sees i (spell σ T) ≡ true → i < x .arity
       known i s = go (decLt i (x .arity))
@@ -130,12 +130,12 @@ module _ (n : ℕ) (template : List ℕ) (tlen : ℕ) (shapes : List ℕ) (x : T
       seen : (i : ℕ) → sees i (spell σ T) ≡ true → bitAt i h ≡ true
       seen i s =
           let z : 0 + i ≡ i = omega arith in
-          ap (bitAt i) bits ∙ occurring-bit 6 0 i (spell σ T) (omega (arith, known i s, w .callee .few)) (ap (λ (j : ℕ). sees j (spell σ T)) z ∙ s)
+          ap (bitAt i) bits ∙ occurring-bit maxParams 0 i (spell σ T) (omega (arith, known i s, w .callee .few)) (ap (λ (j : ℕ). sees j (spell σ T)) z ∙ s)
 
       given : Given σ (S .us) args (spell σ T)
       given i s =
-          let l : i < 6 = omega (arith, known i s, w .callee .few) in
-          argument-at a (startsFrom a shapes 6 h (p + 2)) (endsFrom a shapes 6 h (p + 2)) i l ∙ at-arguments .each i l (seen i s)
+          let l : i < maxParams = omega (arith, known i s, w .callee .few) in
+          argument-of a shapes h (p + 2) i l ∙ at-arguments .each i l (seen i s)
 
       read : stringAt template 0 tlen ≡ spell σ T
       read = stands template 0 (spell σ T) tlen (w .spelt) (w .inside) (w .near)
@@ -149,7 +149,7 @@ module _ (n : ℕ) (template : List ℕ) (tlen : ℕ) (shapes : List ℕ) (x : T
       begins : Begins n (fill args 0 (spell σ T))
       begins =
           fill-begins n args (spell σ T) (starts T σ 0 (stands-shaped (x .sense) (x .arity) (w .few) T 0 (w .callee .stands .formed) (w .callee .stands .calls)))
-          (subst (λ (z : ℕ). z < 64) (w .callee .shape) (S .small)) (w .fresh)
+          (subst (λ (z : ℕ). z < aloneShape) (w .callee .shape) (S .small)) (w .fresh)
 
       shape : shapeOf (spell σ (S .next)) ≡ shapeOf (spell σ (x .term))
       shape =
@@ -219,7 +219,7 @@ module _ (n : ℕ) (template : List ℕ) (tlen : ℕ) (shapes : List ℕ) (x : T
         let u : size (b .first ∷ []) ≡ widthOf (b .first) + 0 = length-append (symbolBytes (b .first)) [] in
         omega arith
 
-    module _ (f : r .fits ≡ true) (a′ : List ℕ) (r′ : Filled) (e : Ending q filled (r .len) (lastFrom a shapes 6 (getD shapes n 0) (p + 2)) a a′ r′) where
+    module _ (f : r .fits ≡ true) (a′ : List ℕ) (r′ : Filled) (e : Ending q filled (r .len) (lastFrom a shapes maxParams (getD shapes n 0) (p + 2)) a a′ r′) where
       -- or none between the two parts
       pub no-room : r′ .fits ≡ false → Over x (length a)
       unfolding str
@@ -228,7 +228,7 @@ module _ (n : ℕ) (template : List ℕ) (tlen : ℕ) (shapes : List ℕ) (x : T
           o : Opened n template tlen shapes x a p (y .gs)
           o = opened y l c
 
-          go : (r .len ≡ 0) ⊎ (min (lastFrom a shapes 6 (getD shapes n 0) (p + 2)) (length a) < q + r .len) → length a < size (spell (x .sense .shape) (o .kept .term))
+          go : (r .len ≡ 0) ⊎ (min (lastFrom a shapes maxParams (getD shapes n 0) (p + 2)) (length a) < q + r .len) → length a < size (spell (x .sense .shape) (o .kept .term))
           go (inl k) = absurd (omega (arith, long o, laid .yes f .0))
           go (inr k) = omega (arith, ended o, k, o .left .1, laid .yes f .0)
 
@@ -251,7 +251,7 @@ module _ (n : ℕ) (template : List ℕ) (tlen : ℕ) (shapes : List ℕ) (x : T
           o = opened y l c
 
           E : ℕ
-          E = lastFrom a shapes 6 (getD shapes n 0) (p + 2)
+          E = lastFrom a shapes maxParams (getD shapes n 0) (p + 2)
 
           len : r .len ≡ 0 + size str
           len = laid .yes f .0

@@ -13,7 +13,7 @@ use Rattle.theory.specs.Lists.{orElse}
 use Rattle.theory.specs.Term.{Every, Everys, Fits, Head, Term, Terms, WellFormed, bound, builtin, declared, defined, eval, leaf, param, withDefined}
 use Rattle.theory.specs.Tree.{count, node}
 use Rattle.symbols.specs.Pieces.{ShapedHead}
-use Rattle.symbols.specs.Spell.{maskOf, masked, spell}
+use Rattle.symbols.specs.Spell.{aloneShape, maskOf, masked, maxParams, spell}
 use Rattle.symbols.specs.Symbol.{Symbol, call}
 use Rattle.unfolding.proofs.CallsAt.{Calls, calls-at}
 use Rattle.unfolding.proofs.Holes.{every-at, every-put, plug-same}
@@ -26,7 +26,7 @@ use Rattle.worlds.proofs.Uses.{every-both}
 use Rattle.worlds.specs.World.{AnyName, HeadMentions}
 
 -- the shapes of a term's calls are right, so the run over its string counts right
-module _ (g : Sense) (p : ℕ) (few : (k a : ℕ) → g .arity k ≡ some a → a ≤ 6) where
+module _ (g : Sense) (p : ℕ) (few : (k a : ℕ) → g .arity k ≡ some a → a ≤ maxParams) where
   head-shaped : (k : ℕ) (h : Head) (m : ℕ) → Fits (g .arity) p k h m × HeadMentions AnyName (Right g) k h m → ShapedHead (g .shape) k h m
   head-shaped k (param i) m w = tt
   head-shaped k (bound j) m w = tt
@@ -43,7 +43,7 @@ pub record Step (g : Sense) (p n m : ℕ) (T t : Term) (gs hs : List Symbol) : T
   pub us : Terms
   pub ks : List Symbol
   pub number : count us ≡ m
-  pub small : g .shape n < 64
+  pub small : g .shape n < aloneShape
   pub bits : g .shape n < 2 ^ count us
   pub depth : ℕ
   pub shaped : Everys (ShapedHead (g .shape)) depth (bindsIn plain) us
@@ -53,7 +53,7 @@ pub record Step (g : Sense) (p n m : ℕ) (T t : Term) (gs hs : List Symbol) : T
   pub stands : Stands g p next
   pub spelt : spell (g .shape) next ≡ gs ++ (spell (g .shape) (putIn us T) ++ ks)
 
-module _ (g : Sense) (p n m : ℕ) (T t : Term) (gs hs : List Symbol) (few : (k a : ℕ) → g .arity k ≡ some a → a ≤ 6) (w : Stands g p t) (c : Callee g n m T)
+module _ (g : Sense) (p n m : ℕ) (T t : Term) (gs hs : List Symbol) (few : (k a : ℕ) → g .arity k ≡ some a → a ≤ maxParams) (w : Stands g p t) (c : Callee g n m T)
     (e : spell (g .shape) t ≡ gs ++ (call n ∷ hs)) where
   at : Calls (g .shape) t gs n hs
   at = calls-at t (g .shape) gs n hs e
@@ -74,7 +74,7 @@ module _ (g : Sense) (p n m : ℕ) (T t : Term) (gs hs : List Symbol) (few : (k 
       let formed : WellFormed (g .arity) p k old = every-at (Fits (g .arity) p) hole old 0 (subst (λ (u : Term). WellFormed (g .arity) p 0 u) (c₀ .whole) (w .formed)) in
       let called : Calling (Right g) k old = every-at (HeadMentions AnyName (Right g)) hole old 0 (subst (λ (u : Term). Calling (Right g) 0 u) (c₀ .whole) (w .calls)) in
       let number : count us ≡ m = ap (orElse 0) (sym (formed .0) ∙ c .arity) in
-      let small : g .shape n < 64 = ltb-true (g .shape n) 64 (c₀ .small) in
+      let small : g .shape n < aloneShape = ltb-true (g .shape n) aloneShape (c₀ .small) in
       let bits : maskOf (g .shape n) < 2 ^ count us = called .0 .0 .1 (count us) (formed .0) in
       record {
         us = us;

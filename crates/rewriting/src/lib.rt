@@ -7,21 +7,13 @@ ghost use lib.Dec.{eqb};
 ghost use lib.ListN.{length};
 ghost use Rattle.rows.specs.Rows.{arityColumn};
 ghost use Rattle.symbols.specs.Symbol.{calls};
+ghost use Rattle.strings.specs.Laid.{boundCount};
 ghost use Rattle.strings.specs.Read.{symbolAt, symbolOf};
 ghost use Rattle.rewriting.specs.Ends.{endOf};
-ghost use Rattle.rewriting.specs.Filling.{FilledCall, Six};
+ghost use Rattle.rewriting.specs.Filling.{Bounds, FilledCall};
 ghost use Rattle.rewriting.specs.Going.{AtRight, Carried, Cleared, Ended, Ending, Turned};
 ghost use Rattle.rewriting.specs.Rewritten.{Rewritten};
-
-// Where the arguments of a call end, each beginning where the one before it ends; one that is dropped is empty.
-struct Places {
-    e0: usize,
-    e1: usize,
-    e2: usize,
-    e3: usize,
-    e4: usize,
-    e5: usize,
-}
+use symbols::Shape;
 
 // A text filled in, and where the arguments end that were put in.
 struct Part {
@@ -60,7 +52,7 @@ pub fn is_call(g: strings::Sign, n: u16) -> bool
 }
 
 // Where the argument that begins at a position ends, the lowest bit of h saying that there is one.
-fn argument_end(a: &[u8], shapes: &[u8], arities: &[u8], h: u8, at: usize) -> usize
+fn argument_end(a: &[u8], shapes: &[u32], arities: &[u8], h: u32, at: usize) -> usize
     requires { ⌜ (length (now a) < 2 ^ 48) × (now arities ≡ arityColumn) ⌝ }
     ensures { λ r. ⌜ r ≡ endOf (now (a .entry)) (now (shapes .entry)) h at ⌝ }
 {
@@ -71,24 +63,25 @@ fn argument_end(a: &[u8], shapes: &[u8], arities: &[u8], h: u8, at: usize) -> us
     }
 }
 
-// The arguments of a call, the first at a position, those whose bits in h are set.
-fn arguments(a: &[u8], shapes: &[u8], arities: &[u8], h: u8, at: usize) -> Places
-    requires { ⌜ (length (now a) < 2 ^ 48) × (now arities ≡ arityColumn) ⌝ }
-    ensures { λ r. ⌜ Six (now (a .entry)) (now (shapes .entry)) h at r ⌝ }
+// Where the arguments of a call begin and end, those whose bits in h are set, the first at a position: each begins where the one before it ends.
+fn arguments(
+    a: &[u8],
+    shapes: &[u32],
+    arities: &[u8],
+    h: u32,
+    at: usize,
+    bounds: &mut [usize],
+)
+    requires { ⌜ (length (now a) < 2 ^ 48) × (now arities ≡ arityColumn) × (length (now bounds) ≡ boundCount) ⌝ }
+    ensures { λ r. ⌜ Bounds (now (a .entry)) (now (shapes .entry)) h at (now (bounds .exit)) ⌝ }
 {
-    let e0 = argument_end(a, shapes, arities, h, at);
-    let e1 = argument_end(a, shapes, arities, h / 2, e0);
-    let e2 = argument_end(a, shapes, arities, h / 2 / 2, e1);
-    let e3 = argument_end(a, shapes, arities, h / 2 / 2 / 2, e2);
-    let e4 = argument_end(a, shapes, arities, h / 2 / 2 / 2 / 2, e3);
-    let e5 = argument_end(a, shapes, arities, h / 2 / 2 / 2 / 2 / 2, e4);
-    Places {
-        e0,
-        e1,
-        e2,
-        e3,
-        e4,
-        e5,
+    bounds[0] = at;
+    let mut rest = h;
+    let mut i: usize = 0;
+    while i < Shape::PARAMS {
+        bounds[i + 1] = argument_end(a, shapes, arities, rest, bounds[i]);
+        rest = rest / 2;
+        i += 1;
     }
 }
 
@@ -96,35 +89,23 @@ fn arguments(a: &[u8], shapes: &[u8], arities: &[u8], h: u8, at: usize) -> Place
 fn fill_call(
     a: &[u8],
     at: usize,
-    h: u8,
+    h: u32,
     template: &[u8],
     tlen: usize,
-    shapes: &[u8],
+    shapes: &[u32],
     arities: &[u8],
     filled: &mut [u8],
 ) -> Part
     requires { ⌜ (length (now a) < 2 ^ 48) × (now arities ≡ arityColumn) ⌝ }
     ensures { λ r. ⌜ FilledCall (now (a .entry)) at h (now (template .entry)) tlen (now (shapes .entry)) (now (filled .entry)) (now (filled .exit)) r ⌝ }
 {
-    let s = arguments(a, shapes, arities, h, at);
-    let e0 = s.e0;
-    let e1 = s.e1;
-    let e2 = s.e2;
-    let e3 = s.e3;
-    let e4 = s.e4;
-    let e5 = s.e5;
-    let f = strings::fill_in(
-        template,
-        tlen,
-        a,
-        [at, e0, e1, e2, e3, e4],
-        [e0, e1, e2, e3, e4, e5],
-        filled,
-    );
+    let mut bounds = [0usize; Shape::PARAMS + 1];
+    arguments(a, shapes, arities, h, at, &mut bounds);
+    let f = strings::fill_in(template, tlen, a, &bounds, filled);
     Part {
         fits: f.fits,
         len: f.len,
-        end: e5,
+        end: bounds[Shape::PARAMS],
     }
 }
 
@@ -161,14 +142,14 @@ fn replace(
     n: u16,
     template: &[u8],
     tlen: usize,
-    shapes: &[u8],
+    shapes: &[u32],
     arities: &[u8],
     filled: &mut [u8],
 ) -> strings::Filled
     requires { ⌜ (q ≤ p) × (p < length (now a)) × (length (now a) ≤ length (now filled)) × (length (now filled) < 2 ^ 48) × (now arities ≡ arityColumn) × (calls (eqb n) (symbolAt (now a) p) ≡ true) ⌝ }
     ensures { λ r. ⌜ Cleared n (now (template .entry)) tlen (now (shapes .entry)) q p (now (a .entry)) (now (a .exit)) r × (length (now (filled .exit)) ≡ length (now (filled .entry))) ⌝ }
 {
-    let h = tokens::byte_at(shapes, n as usize);
+    let h = symbols::shape_at(shapes, n as usize);
     let f = fill_call(a, p + 2, h, template, tlen, shapes, arities, filled);
     if f.fits {
         end_at(a, q, filled, f.len, f.end)
@@ -188,7 +169,7 @@ fn cleared(
     n: u16,
     template: &[u8],
     tlen: usize,
-    shapes: &[u8],
+    shapes: &[u32],
     arities: &[u8],
     filled: &mut [u8],
 ) -> strings::Filled
@@ -220,7 +201,7 @@ fn turn(
     n: u16,
     template: &[u8],
     tlen: usize,
-    shapes: &[u8],
+    shapes: &[u32],
     arities: &[u8],
     filled: &mut [u8],
 ) -> Moved
@@ -247,7 +228,7 @@ fn rewrite_from(
     n: u16,
     template: &[u8],
     tlen: usize,
-    shapes: &[u8],
+    shapes: &[u32],
     arities: &[u8],
     filled: &mut [u8],
 ) -> strings::Filled
@@ -290,7 +271,7 @@ pub fn rewrite(
     n: u16,
     template: &[u8],
     tlen: usize,
-    shapes: &[u8],
+    shapes: &[u32],
     filled: &mut [u8],
 ) -> strings::Filled
     requires { ⌜ (len ≤ length (now a)) × (length (now a) ≤ length (now filled)) × (length (now filled) < 2 ^ 48) ⌝ }

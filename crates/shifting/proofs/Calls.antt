@@ -3,17 +3,15 @@
 use mathlib.Core.Bool.{cond, false, true}
 use mathlib.Core.List.{List, [], _++_, _∷_, append-assoc, append-nil}
 use mathlib.Core.Path.{_∙_, _≡_, ap, fun-ext, refl, subst, sym}
-use borrow.Author.Tests.{leb-false, ltb-true}
-use lib.Dec.{leb}
+use borrow.Author.Tests.{ltb-true}
 use lib.ListN.{getD, length, length-append}
 use native.Mathlib.Nat.{zero-add}
 use native.Mathlib.Omega.{arith}
 use Prim.Native.Nat.{ℕ, suc, _+_, _^_, _<_, _≤_}
 use Rattle.symbols.proofs.Sizes.{size-append, size-first}
 use Rattle.symbols.specs.Pieces.{ShapedHead}
-use Rattle.symbols.specs.Spell.{maskOf, masked, spell}
+use Rattle.symbols.specs.Spell.{aloneShape, maskOf, masked, maxParams, spell}
 use Rattle.symbols.specs.Symbol.{Spelt, Symbol, after, bytesOf, call, size, symbolBytes}
-use Rattle.strings.proofs.Filling.{argument-at}
 use Rattle.strings.proofs.Reading.{stands, width-some}
 use Rattle.strings.specs.Read.{far, isFar, shapeIn, stringAt, symbolAt, widthOf}
 use Rattle.theory.specs.Expand.{nothing}
@@ -21,7 +19,6 @@ use Rattle.theory.specs.Level.{bindsIn, plain}
 use Rattle.theory.specs.Lists.{orElse}
 use Rattle.theory.specs.Term.{Everys, Fits, Term, WellFormed, defined}
 use Rattle.theory.specs.Tree.{count, node, nth}
-use Rattle.context.proofs.Lookups.{cond-cases}
 use Rattle.unfolding.proofs.CallsAt.{Calls, calls-at}
 use Rattle.unfolding.proofs.Holes.{every-at}
 use Rattle.unfolding.proofs.Masks.{mask-below}
@@ -29,10 +26,11 @@ use Rattle.unfolding.specs.Hole.{boundAt}
 use Rattle.unfolding.specs.Right.{Calling}
 use Rattle.unfolding.specs.Sense.{Right}
 use Rattle.worlds.specs.World.{AnyName, HeadMentions}
-use Rattle.rewriting.proofs.Bits.{none-both}
+use Rattle.rewriting.proofs.Bits.{none-both, places-cover}
+use Rattle.rewriting.proofs.Bounding.{argument-of}
 use Rattle.rewriting.proofs.Found.{Found, Front, found, front, spelt-split}
 use Rattle.rewriting.proofs.Step.{stands-shaped}
-use Rattle.rewriting.specs.Ends.{bitAt, endsFrom, lastFrom, startsFrom}
+use Rattle.rewriting.specs.Ends.{bitAt, lastFrom, placesOf}
 use Rattle.rewriting.specs.Rewritten.{Posed, Task}
 use Rattle.shifting.proofs.CallPlaces.{Placed, bit-within, last-more, nth-every, placed}
 use Rattle.shifting.proofs.Shifting.{closes-masked, closes-spell}
@@ -73,23 +71,6 @@ record Cut (a : List ℕ) (start cs : List Symbol) : Type 0 where
   near-ahead : far start ≡ false
   near-onward : far cs ≡ false
   inside : size start ≤ length a
-
--- one more than the highest argument whose bit is set
-abbrev pub places : ℕ → ℕ
-places h = cond (leb 32 h) 6 (cond (leb 16 h) 5 (cond (leb 8 h) 4 (cond (leb 4 h) 3 (cond (leb 2 h) 2 (cond (leb 1 h) 1 0)))))
-
-abbrev Covers : ℕ → ℕ → Type 0
-Covers h k = (h < 2 ^ k) × (k ≤ 6)
-
-places-cover : (h : ℕ) → h < 64 → Covers h (places h)
-places-cover h l =
-    cond-cases (Covers h) (leb 32 h) (λ e. (omega arith, omega arith))
-    (λ e. cond-cases (Covers h) (leb 16 h) (λ c. (omega (arith, leb-false), omega arith))
-    (λ e. cond-cases (Covers h) (leb 8 h) (λ c. (omega (arith, leb-false), omega arith))
-    (λ e. cond-cases (Covers h) (leb 4 h) (λ c. (omega (arith, leb-false), omega arith))
-    (λ e. cond-cases (Covers h) (leb 2 h) (λ c. (omega (arith, leb-false), omega arith))
-    (λ e. cond-cases (Covers h) (leb 1 h) (λ c. (omega (arith, leb-false), omega arith))
-    (λ e. (omega (arith, leb-false), omega arith)))))))
 
 module _ (x : Task) (a : List ℕ) (n : ℕ) (template : List ℕ) (tlen : ℕ) (shapes : List ℕ) (z : Posed a (length a) n template tlen shapes x) where
   text-reads : stringAt a 0 (length a) ≡ spell (x .sense .shape) (x .term)
@@ -234,8 +215,8 @@ module _ (x : Task) (a : List ℕ) (n : ℕ) (template : List ℕ) (tlen : ℕ) 
     unfolding old
     number = ap (orElse 0) (sym (formed .0) ∙ z .templated .callee .arity)
 
-    small : getD shapes n 0 < 64
-    small = subst (λ (m : ℕ). m < 64) (z .templated .shaped n) (ltb-true (x .sense .shape n) 64 (at .small))
+    small : getD shapes n 0 < aloneShape
+    small = subst (λ (m : ℕ). m < aloneShape) (z .templated .shaped n) (ltb-true (x .sense .shape n) aloneShape (at .small))
 
     bits : getD shapes n 0 < 2 ^ count (at .us)
     unfolding old
@@ -272,10 +253,10 @@ module _ (x : Task) (a : List ℕ) (n : ℕ) (template : List ℕ) (tlen : ℕ) 
         let e : size (h .start ++ (call n ∷ [])) ≡ p + 2 = omega arith in
         subst (λ (y : ℕ). Spelt a y (args ++ (at .ks ++ h .later)) (length a)) e (onward .onward)
 
-    standing : Found a shapes (x .sense .shape) (at .us) (at .ks ++ h .later) 6 (getD shapes n 0) (p + 2)
+    standing : Found a shapes (x .sense .shape) (at .us) (at .ks ++ h .later) maxParams (getD shapes n 0) (p + 2)
     unfolding args
     standing =
-        found a shapes (x .sense .shape) same (at .ks ++ h .later) 6 (at .us) (getD shapes n 0) (p + 2) bound (bindsIn plain)
+        found a shapes (x .sense .shape) same (at .ks ++ h .later) maxParams (at .us) (getD shapes n 0) (p + 2) bound (bindsIn plain)
         (omega (arith, number, z .templated .callee .few)) bits shaped (onward .near-onward) from
 
     argument-placed : (i : ℕ) → Placed a shapes (x .sense .shape) (at .us) (getD shapes n 0) (p + 2) i
@@ -306,7 +287,7 @@ module _ (x : Task) (a : List ℕ) (n : ℕ) (template : List ℕ) (tlen : ℕ) 
           starts = refl;
         }
 
-    argument : (i : ℕ) → i < 6 → bitAt i (getD shapes n 0) ≡ true
+    argument : (i : ℕ) → i < maxParams → bitAt i (getD shapes n 0) ≡ true
         → Later x a n (h .start) (lastFrom a shapes i (getD shapes n 0) (p + 2)) (lastFrom a shapes (suc i) (getD shapes n 0) (p + 2)) 0
         (spell (x .sense .shape) (nth nothing (at .us) i))
     unfolding args
@@ -314,7 +295,7 @@ module _ (x : Task) (a : List ℕ) (n : ℕ) (template : List ℕ) (tlen : ℕ) 
         argument-placed i
         (placed a shapes (x .sense .shape) same (at .ks ++ h .later) (at .us) (getD shapes n 0) (p + 2) bound (bindsIn plain) i bits shaped (onward .near-onward) from b)
 
-    behind : Later x a n (h .start) (lastFrom a shapes 6 (getD shapes n 0) (p + 2)) e depth (at .ks)
+    behind : Later x a n (h .start) (lastFrom a shapes maxParams (getD shapes n 0) (p + 2)) e depth (at .ks)
     unfolding args
     behind =
         let l = size-append (h .start) (call n ∷ args) in
@@ -354,7 +335,7 @@ module _ (x : Task) (a : List ℕ) (n : ℕ) (template : List ℕ) (tlen : ℕ) 
           level = bound;
           shaped = shaped;
           given =
-              λ i l b. argument-at a (startsFrom a shapes 6 (getD shapes n 0) (p + 2)) (endsFrom a shapes 6 (getD shapes n 0) (p + 2)) i l ∙ standing .each i l b;
+              λ i l b. argument-of a shapes (getD shapes n 0) (p + 2) i l ∙ standing .each i l b;
           argument = argument;
           after = behind;
         }
@@ -366,11 +347,11 @@ module _ (x : Task) (a : List ℕ) (n : ℕ) (template : List ℕ) (tlen : ℕ) 
   call-anywhere start more q =
       (length a, afterAll 0 start, call-here (size start) (length a) (afterAll 0 start) more (part-at start (call n ∷ more) q))
 
-  -- the end of six arguments is the end of those that the shape speaks of
-  pub last-places : (h at : ℕ) → h < 64 → lastFrom a shapes (places h) h at ≡ lastFrom a shapes 6 h at
+  -- the end of all arguments is the end of those that the shape speaks of
+  pub last-places : (h at : ℕ) → h < aloneShape → lastFrom a shapes (placesOf h) h at ≡ lastFrom a shapes maxParams h at
   last-places h at l =
       let c = places-cover h l in
-      last-more a shapes (places h) 6 h at (c .0) (c .1)
+      last-more a shapes (placesOf h) maxParams h at (c .0) (c .1)
 
-  pub bit-places : (h i : ℕ) → h < 64 → bitAt i h ≡ true → i < places h
-  bit-places h i l b = bit-within i (places h) h (places-cover h l .0) b
+  pub bit-places : (h i : ℕ) → h < aloneShape → bitAt i h ≡ true → i < placesOf h
+  bit-places h i l b = bit-within i (placesOf h) h (places-cover h l .0) b

@@ -15,7 +15,7 @@ use Rattle.rewriting.specs.Going.{Kept}
 use Rattle.rewriting.specs.Rewritten.{Task, Templated}
 use Rattle.symbols.proofs.Filling.{Given, fill-term}
 use Rattle.symbols.specs.Pieces.{ShapedHead}
-use Rattle.symbols.specs.Spell.{masked, occurring, shapeOf, spell}
+use Rattle.symbols.specs.Spell.{aloneShape, masked, maxParams, occurring, shapeOf, spell}
 use Rattle.symbols.specs.Symbol.{Symbol, call, calls, fill, sees}
 use Rattle.theory.proofs.Lists.{never}
 use Rattle.theory.specs.Expand.{nothing, putIn}
@@ -33,7 +33,7 @@ module _ (x : Task) (n : ℕ) (template : List ℕ) (tlen : ℕ) (shapes : List 
   pub entered : (k : Kept x) (gs : List Symbol) (E : List ℕ) (b : ℕ) (us : Terms) (d : ℕ) (ks : List Symbol) (args : List (List Symbol))
       → spell (x .sense .shape) (k .term) ≡ gs ++ (call n ∷ (shift E b (masked (x .sense .shape) (getD shapes n 0) us) ++ ks)) → count us ≡ x .arity
       → Everys (ShapedHead (x .sense .shape)) d (bindsIn plain) us
-      → ((i : ℕ) → i < 6 → bitAt i (getD shapes n 0) ≡ true → getD args i [] ≡ spell (x .sense .shape) (nth nothing us i))
+      → ((i : ℕ) → i < maxParams → bitAt i (getD shapes n 0) ≡ true → getD args i [] ≡ spell (x .sense .shape) (nth nothing us i))
       → (k′ : Kept x) × (spell (x .sense .shape) (k′ .term) ≡ gs ++ (fill (shiftEach E b args) 0 (spell (x .sense .shape) (x .text)) ++ ks))
   entered k gs E b us d ks args e few shaped arguments = (
     record {
@@ -74,8 +74,8 @@ module _ (x : Task) (n : ℕ) (template : List ℕ) (tlen : ℕ) (shapes : List 
       pieces : SameArguments σ E b h us (S .us) ks (S .ks)
       pieces = same-arguments σ E b us (S .us) h d (S .depth) (bindsIn plain) (bindsIn plain) ks (S .ks) (few ∙ sym number) shaped (S .shaped) rest
 
-      bits : h ≡ occurring 6 0 (spell σ T)
-      bits = sym (w .shaped n) ∙ w .callee .shape ∙ shape-bits (spell σ T) (subst (λ (z : ℕ). z < 64) (w .callee .shape) (S .small))
+      bits : h ≡ occurring maxParams 0 (spell σ T)
+      bits = sym (w .shaped n) ∙ w .callee .shape ∙ shape-bits (spell σ T) (subst (λ (z : ℕ). z < aloneShape) (w .callee .shape) (S .small))
 
       known : (i : ℕ) → sees i (spell σ T) ≡ true → i < x .arity
       known i s = go (decLt i (x .arity))
@@ -87,11 +87,11 @@ module _ (x : Task) (n : ℕ) (template : List ℕ) (tlen : ℕ) (shapes : List 
       seen : (i : ℕ) → sees i (spell σ T) ≡ true → bitAt i h ≡ true
       seen i s =
           let z : 0 + i ≡ i = omega arith in
-          ap (bitAt i) bits ∙ occurring-bit 6 0 i (spell σ T) (omega (arith, known i s, w .callee .few)) (ap (λ (j : ℕ). sees j (spell σ T)) z ∙ s)
+          ap (bitAt i) bits ∙ occurring-bit maxParams 0 i (spell σ T) (omega (arith, known i s, w .callee .few)) (ap (λ (j : ℕ). sees j (spell σ T)) z ∙ s)
 
       given : Given σ (S .us) put (spell σ T)
       given i s =
-          let l : i < 6 = omega (arith, known i s, w .callee .few) in
+          let l : i < maxParams = omega (arith, known i s, w .callee .few) in
           each-at E b i args ∙ ap (shift E b) (arguments i l (seen i s)) ∙ pieces .0 i (subst (λ (z : ℕ). i < z) (sym few) (known i s)) (seen i s)
 
       filled : fill put 0 (spell σ T) ≡ spell σ (putIn (S .us) T)
@@ -105,7 +105,7 @@ module _ (x : Task) (n : ℕ) (template : List ℕ) (tlen : ℕ) (shapes : List 
       begins : Begins n (fill put 0 (spell σ T))
       begins =
           fill-begins n put (spell σ T) (starts T σ 0 (stands-shaped (x .sense) (x .arity) (w .few) T 0 (w .callee .stands .formed) (w .callee .stands .calls)))
-          (subst (λ (z : ℕ). z < 64) (w .callee .shape) (S .small)) (w .fresh)
+          (subst (λ (z : ℕ). z < aloneShape) (w .callee .shape) (S .small)) (w .fresh)
 
       shape : shapeOf (spell σ (S .next)) ≡ shapeOf (spell σ (x .term))
       shape =

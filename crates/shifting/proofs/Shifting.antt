@@ -10,7 +10,7 @@ use native.Mathlib.Decide.{decLt}
 use native.Mathlib.Omega.{arith}
 use Prim.Native.Nat.{ℕ, zero, suc, _+_, _-_, _/_, _%_, _<_, _≤_, zero-le}
 use Rattle.strings.specs.Read.{widthOf}
-use Rattle.symbols.specs.Spell.{bracketed, callHead, maskOf, masked, spell, spells}
+use Rattle.symbols.specs.Spell.{aloneShape, bracketed, callHead, maskOf, masked, spell, spells}
 use Rattle.symbols.specs.Symbol.{Symbol, begin, call, calls, code, end, fill, move, name, number, par, var}
 use Rattle.theory.specs.Level.{bindsIn, codeBinder, plain}
 use Rattle.theory.specs.Term.{Term, Terms, bound, builtin, declared, defined, leaf, literal, param}
@@ -82,7 +82,7 @@ mutual
       (balanceds σ (bindsIn plain) ts)
   balanced σ (node (defined n) ts) =
       balanced-both (callHead (σ n) n) (masked σ (maskOf (σ n)) ts)
-      (balanced-chosen (ltb (σ n) 64) (call n ∷ []) (balanced-one (call n) (λ c hs. refl) (λ b E. refl))) (balanced-masked σ (maskOf (σ n)) ts)
+      (balanced-chosen (ltb (σ n) aloneShape) (call n ∷ []) (balanced-one (call n) (λ c hs. refl) (λ b E. refl))) (balanced-masked σ (maskOf (σ n)) ts)
   balanced σ (node (builtin c) ts) =
       balanced-both (code c ∷ []) (spells σ (bindsIn (codeBinder c)) ts) (balanced-one (code c) (λ c hs. refl) (λ b E. refl))
       (balanceds σ (bindsIn (codeBinder c)) ts)

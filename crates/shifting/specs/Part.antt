@@ -9,7 +9,7 @@ use Rattle.theory.specs.Level.{bindsIn, plain}
 use Rattle.theory.specs.Term.{Everys, Term, Terms, WellFormed}
 use Rattle.theory.specs.Tree.{count, nth}
 use Rattle.symbols.specs.Pieces.{ShapedHead}
-use Rattle.symbols.specs.Spell.{masked, spell}
+use Rattle.symbols.specs.Spell.{aloneShape, masked, maxParams, spell}
 use Rattle.symbols.specs.Symbol.{Symbol, call, size}
 use Rattle.strings.specs.Read.{stringAt}
 use Rattle.unfolding.specs.Right.{Calling}
@@ -46,12 +46,12 @@ pub record CallHere (x : Task) (a shapes : List ℕ) (n : ℕ) (start : List Sym
   pub ks : List Symbol
   pub rest : more ≡ masked (x .sense .shape) (getD shapes n 0) us ++ ks
   pub number : count us ≡ x .arity
-  pub small : getD shapes n 0 < 64
+  pub small : getD shapes n 0 < aloneShape
   pub level : ℕ
   pub shaped : Everys (ShapedHead (x .sense .shape)) level (bindsIn plain) us
   -- the arguments that occur, as the code finds them
-  pub given : (i : ℕ) → i < 6 → bitAt i (getD shapes n 0) ≡ true
+  pub given : (i : ℕ) → i < maxParams → bitAt i (getD shapes n 0) ≡ true
       → getD (argumentsOf a shapes (getD shapes n 0) (p + 2)) i [] ≡ spell (x .sense .shape) (nth nothing us i)
-  pub argument : (i : ℕ) → i < 6 → bitAt i (getD shapes n 0) ≡ true
+  pub argument : (i : ℕ) → i < maxParams → bitAt i (getD shapes n 0) ≡ true
       → Later x a n start (lastFrom a shapes i (getD shapes n 0) (p + 2)) (lastFrom a shapes (suc i) (getD shapes n 0) (p + 2)) 0 (spell (x .sense .shape) (nth nothing us i))
-  pub after : Later x a n start (lastFrom a shapes 6 (getD shapes n 0) (p + 2)) e depth ks
+  pub after : Later x a n start (lastFrom a shapes maxParams (getD shapes n 0) (p + 2)) e depth ks

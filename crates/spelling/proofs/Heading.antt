@@ -21,7 +21,7 @@ use Rattle.tokens.specs.declared.Token.{Token}
 use Rattle.tokens.specs.declared.Token.the-variants.{BuiltIn, Bound, InstanceOperator, Literal, Name, NoToken, Parameter}
 use Rattle.texts.specs.Text.{Declarations, noDeclaration}
 use Rattle.symbols.specs.Symbol.{Symbol, bytesOf, call, code, name, number, par, var}
-use Rattle.symbols.specs.Spell.{callHead, maskOf, masked, spell}
+use Rattle.symbols.specs.Spell.{aloneShape, callHead, maskOf, masked, shapeLimit, spell}
 use Rattle.unfolding.specs.InWorld.{declaredIn}
 use Rattle.spelling.specs.Put.{Put}
 use Rattle.spelling.specs.Parts.{isWritten, parts}
@@ -35,14 +35,14 @@ written-all all m h = rw h
 pub written-bit : (all : Bool) (m : ℕ) → all ≡ false → eqb (m % 2) 1 ≡ isWritten all m
 written-bit all m h = rw h
 
-pub mask-bits : (h : ℕ) → h < 64 → h ≡ maskOf h
-mask-bits h l = rw (lt-ltb h 64 l)
+pub mask-bits : (h : ℕ) → h < aloneShape → h ≡ maskOf h
+mask-bits h l = rw (lt-ltb h aloneShape l)
 
 one-shl : (k i : ℕ) → i < k → (1 * 2 ^ i) % 2 ^ k ≡ 2 ^ i
 one-shl k i h = shl-exact 1 i k (omega arith) (omega arith) ∙ one-mul (2 ^ i)
 
-pub mask-one : (h : ℕ) → 64 ≤ h → h < 128 → (1 * 2 ^ (h - 64)) % 2 ^ 64 ≡ maskOf h
-mask-one h l g = rw (le-ltb h 64 l) (one-shl 64 (h - 64) (omega arith))
+pub mask-one : (h : ℕ) → aloneShape ≤ h → h < shapeLimit → (1 * 2 ^ (h - aloneShape)) % 2 ^ 64 ≡ maskOf h
+mask-one h l g = rw (le-ltb h aloneShape l) (one-shl 64 (h - aloneShape) (omega arith))
 
 -- symbols put after symbols
 pub put-symbols : (out : List ℕ) (q : ℕ) (gs : List Symbol) (out₁ : List ℕ) (q₁ : ℕ) (hs : List Symbol) (out₂ : List ℕ) (q₂ : ℕ)
@@ -132,20 +132,20 @@ module _ (σ : ℕ → ℕ) (decls : Declarations) (level outer : ℕ) (numbers 
   }
 
 -- the shape of a number
-pub shape-kept : (shapes : List ℕ) (n h : ℕ) → h ≡ getD shapes n 0 → h < 128 → h ≡ shapeIn shapes n
+pub shape-kept : (shapes : List ℕ) (n h : ℕ) → h ≡ getD shapes n 0 → h < shapeLimit → h ≡ shapeIn shapes n
 unfolding shapeIn
-shape-kept shapes n h e l = rw (← e, lt-ltb h 128 l)
+shape-kept shapes n h e l = rw (← e, lt-ltb h shapeLimit l)
 
-pub shape-none : (shapes : List ℕ) (n h : ℕ) → h ≡ getD shapes n 0 → 128 ≤ h → 0 ≡ shapeIn shapes n
+pub shape-none : (shapes : List ℕ) (n h : ℕ) → h ≡ getD shapes n 0 → shapeLimit ≤ h → 0 ≡ shapeIn shapes n
 unfolding shapeIn
-shape-none shapes n h e l = rw (← e, le-ltb h 128 l)
+shape-none shapes n h e l = rw (← e, le-ltb h shapeLimit l)
 
-pub call-put : (h n : ℕ) (out : List ℕ) (q : ℕ) (out′ : List ℕ) (q′ : ℕ) → h < 64 → Put out q (bytesOf (call n ∷ [])) out′ q′
+pub call-put : (h n : ℕ) (out : List ℕ) (q : ℕ) (out′ : List ℕ) (q′ : ℕ) → h < aloneShape → Put out q (bytesOf (call n ∷ [])) out′ q′
     → Put out q (bytesOf (callHead h n)) out′ q′
-call-put h n out q out′ q′ l p = rw (lt-ltb h 64 l) p
+call-put h n out q out′ q′ l p = rw (lt-ltb h aloneShape l) p
 
-pub call-passed : (h n : ℕ) (out : List ℕ) (q : ℕ) → 64 ≤ h → Put out q (bytesOf (callHead h n)) out q
-call-passed h n out q l = rw (le-ltb h 64 l) (put-none out q)
+pub call-passed : (h n : ℕ) (out : List ℕ) (q : ℕ) → aloneShape ≤ h → Put out q (bytesOf (callHead h n)) out q
+call-passed h n out q l = rw (le-ltb h aloneShape l) (put-none out q)
 
 -- the name of a declaration
 pub name-shown : (names declared : List ℕ) (d : ℕ) → d < 65536 → getD names (getD declared d 0) 0 ≡ (getD (declarationsIn names declared) d noDeclaration) .1

@@ -11,7 +11,7 @@ use Rattle.theory.specs.Level.{bindsIn, codeBinder, plain}
 use Rattle.theory.specs.Term.{Arities, Everys, Fits, Term, Terms, WellFormed, bound, builtin, declared, defined, leaf, literal, param}
 use Rattle.theory.specs.Tree.{_▹_, count, node, ⟨⟩}
 use Rattle.symbols.specs.Symbol.{Symbol, call, end}
-use Rattle.symbols.specs.Spell.{bracketed, callHead, maskOf, masked, spell, spells}
+use Rattle.symbols.specs.Spell.{aloneShape, bracketed, callHead, maskOf, masked, spell, spells}
 use Rattle.spelling.specs.Strings.{Narrow, narrow}
 
 narrow-bracketed : (n : ℕ) (gs : List Symbol) → Narrow gs → Narrow (bracketed n gs)
@@ -29,7 +29,7 @@ module _ (σ : ℕ → ℕ) (ar : Arities) (n : ℕ) (known : (g k : ℕ) → ar
     narrow-formed (node (bound j) ts) k w = (tt, tt)
     narrow-formed (node (declared d x) ts) k w = (tt, narrow-spells ts k (bindsIn plain) (bindsIn plain) (w .1))
     narrow-formed (node (defined g) ts) k w =
-        append-all narrow (callHead (σ g) g) (masked σ (maskOf (σ g)) ts) (narrow-cond (ltb (σ g) 64) (call g ∷ []) (known g (count ts) (w .0), tt))
+        append-all narrow (callHead (σ g) g) (masked σ (maskOf (σ g)) ts) (narrow-cond (ltb (σ g) aloneShape) (call g ∷ []) (known g (count ts) (w .0), tt))
         (narrow-masked ts k (bindsIn plain) (maskOf (σ g)) (w .1))
     narrow-formed (node (builtin c) ts) k w = (tt, narrow-spells ts k (bindsIn (codeBinder c)) (bindsIn (codeBinder c)) (w .1))
     narrow-formed (node (leaf (literal v)) ts) k w = (tt, tt)

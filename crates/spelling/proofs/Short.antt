@@ -1,4 +1,5 @@
--- The string of a text is at most twice as long as the text: a name of four bytes may become a call and three parameters of two bytes each.
+-- The string of a text is short: a name of four bytes may become a call and the instances' parameters, of two bytes each, and nothing else grows so
+-- much.
 use mathlib.Core.Bool.{Bool, cond, false, true}
 use mathlib.Core.List.{List, [], _++_, _∷_}
 use mathlib.Core.Path.{_∙_, _≡_, ap, refl, subst, sym}
@@ -19,8 +20,9 @@ use Rattle.tokens.specs.declared.Token.the-variants.{BuiltIn, Bound, InstanceOp
 use Rattle.tokens.proofs.Places.{cases}
 use Rattle.texts.specs.Text.{Declarations}
 use Rattle.symbols.specs.Symbol.{Symbol, bytesOf, call, end, par, size}
-use Rattle.symbols.specs.Spell.{bracketed, callHead, maskOf, masked, spell, spells}
+use Rattle.symbols.specs.Spell.{aloneShape, bracketed, callHead, maskOf, masked, spell, spells}
 use Rattle.unfolding.specs.InWorld.{Place, called, declaredIn, impliedIn, namedIn, standIn, termIn, termsIn, tokenIn}
+use Rattle.spelling.specs.Strings.{growth}
 use Rattle.spelling.proofs.Parting.{bytes-append}
 
 size-append : (gs hs : List Symbol) → size (gs ++ hs) ≡ size gs + size hs
@@ -87,50 +89,50 @@ end-found (suc n) s at =
 pub text-ends : (n : ℕ) (s : List ℕ) (at : ℕ) (t : Expr) (e : ℕ) → exprAt n s at ≡ found t e → (e ≡ at + bytesIn t) × AreTokens t
 text-ends n s at t e p = subst (EndOf at) p (end-found n s at)
 
--- the strings of an argument list of w bytes
-record Measured (σ : ℕ → ℕ) (us : Terms) (w : ℕ) : Type 0 where
-  flat : (s : ℕ → ℕ) → ((i : ℕ) → s i ≡ 0) → size (spells σ s us) ≤ 2 * w
-  scoped : (s : ℕ → ℕ) (p : ℕ) → ((i : ℕ) → (i ≡ p → ⊥) → s i ≡ 0) → size (spells σ s us) ≤ 2 * w + 2
-  masks : (m : ℕ) → size (masked σ m us) ≤ 2 * w
+-- twice the bytes of an argument list's strings, at most b
+record Measured (σ : ℕ → ℕ) (us : Terms) (b : ℕ) : Type 0 where
+  flat : (s : ℕ → ℕ) → ((i : ℕ) → s i ≡ 0) → 2 * size (spells σ s us) ≤ b
+  scoped : (s : ℕ → ℕ) (p : ℕ) → ((i : ℕ) → (i ≡ p → ⊥) → s i ≡ 0) → 2 * size (spells σ s us) ≤ b + 4
+  masks : (m : ℕ) → 2 * size (masked σ m us) ≤ b
 
 module _ (σ : ℕ → ℕ) where
   measured-none : Measured σ ⟨⟩ 0
   measured-none = record { flat = λ s z. omega arith; scoped = λ s p z. omega arith; masks = λ m. omega arith }
 
-  measured-more : (t : Term) (us : Terms) (v w : ℕ) → size (spell σ t) ≤ 2 * v → Measured σ us w → Measured σ (t ▹ us) (v + w)
+  measured-more : (t : Term) (us : Terms) (v w : ℕ) → 2 * size (spell σ t) ≤ v → Measured σ us w → Measured σ (t ▹ us) (v + w)
   measured-more t us v w h a = record { flat = flat; scoped = scoped; masks = masks }
     where
-      flat : (s : ℕ → ℕ) → ((i : ℕ) → s i ≡ 0) → size (spells σ s (t ▹ us)) ≤ 2 * (v + w)
+      flat : (s : ℕ → ℕ) → ((i : ℕ) → s i ≡ 0) → 2 * size (spells σ s (t ▹ us)) ≤ v + w
       flat s z =
-          let f : size (spells σ (λ i. s (suc i)) us) ≤ 2 * w = a .flat (λ i. s (suc i)) (λ i. z (suc i)) in
+          let f : 2 * size (spells σ (λ i. s (suc i)) us) ≤ w = a .flat (λ i. s (suc i)) (λ i. z (suc i)) in
           rw (z 0) (omega (arith, size-append (spell σ t) (spells σ (λ i. s (suc i)) us)))
 
-      scoped : (s : ℕ → ℕ) (p : ℕ) → ((i : ℕ) → (i ≡ p → ⊥) → s i ≡ 0) → size (spells σ s (t ▹ us)) ≤ 2 * (v + w) + 2
+      scoped : (s : ℕ → ℕ) (p : ℕ) → ((i : ℕ) → (i ≡ p → ⊥) → s i ≡ 0) → 2 * size (spells σ s (t ▹ us)) ≤ v + w + 4
       scoped s zero z =
-          let f : size (spells σ (λ i. s (suc i)) us) ≤ 2 * w = a .flat (λ i. s (suc i)) (λ i. z (suc i) (λ (e : suc i ≡ 0). omega arith)) in
+          let f : 2 * size (spells σ (λ i. s (suc i)) us) ≤ w = a .flat (λ i. s (suc i)) (λ i. z (suc i) (λ (e : suc i ≡ 0). omega arith)) in
           omega (arith, size-bracketed (s 0) (spell σ t), size-append (bracketed (s 0) (spell σ t)) (spells σ (λ i. s (suc i)) us))
       scoped s (suc p) z =
-          let f : size (spells σ (λ i. s (suc i)) us) ≤ 2 * w + 2 =
+          let f : 2 * size (spells σ (λ i. s (suc i)) us) ≤ w + 4 =
           a .scoped (λ i. s (suc i)) p (λ i n. z (suc i) (λ (e : suc i ≡ suc p). n (omega arith))) in
           let g : s 0 ≡ 0 = z 0 (λ (e : 0 ≡ suc p). omega arith) in
           rw g (omega (arith, size-append (spell σ t) (spells σ (λ i. s (suc i)) us)))
 
-      masks : (m : ℕ) → size (masked σ m (t ▹ us)) ≤ 2 * (v + w)
+      masks : (m : ℕ) → 2 * size (masked σ m (t ▹ us)) ≤ v + w
       masks m =
-          let f : size (masked σ (m / 2) us) ≤ 2 * w = a .masks (m / 2) in
+          let f : 2 * size (masked σ (m / 2) us) ≤ w = a .masks (m / 2) in
           omega (arith, size-cond (eqb (m % 2) 1) (spell σ t), size-append (cond (eqb (m % 2) 1) (spell σ t) []) (masked σ (m / 2) us))
 
-  size-led : (i p m : ℕ) (us : Terms) (w : ℕ) → Measured σ us w → size (masked σ m (join (paramsFrom i p) us)) ≤ 2 * p + 2 * w
+  size-led : (i p m : ℕ) (us : Terms) (w : ℕ) → Measured σ us w → 2 * size (masked σ m (join (paramsFrom i p) us)) ≤ 4 * p + w
   size-led i zero m us w a = let f = a .masks m in omega arith
   size-led i (suc p) m us w a =
-      let f : size (masked σ (m / 2) (join (paramsFrom (suc i) p) us)) ≤ 2 * p + 2 * w = size-led (suc i) p (m / 2) us w a in
+      let f : 2 * size (masked σ (m / 2) (join (paramsFrom (suc i) p) us)) ≤ 4 * p + w = size-led (suc i) p (m / 2) us w a in
       let g : size (cond (eqb (m % 2) 1) (par i ∷ []) []) ≤ 2 = size-cond (eqb (m % 2) 1) (par i ∷ []) in
       omega (arith, size-append (cond (eqb (m % 2) 1) (par i ∷ []) []) (masked σ (m / 2) (join (paramsFrom (suc i) p) us)))
 
-  size-called : (outer n : ℕ) (us : Terms) (w : ℕ) → Measured σ us w → size (spell σ (called outer n us)) ≤ 2 + 2 * outer + 2 * w
+  size-called : (outer n : ℕ) (us : Terms) (w : ℕ) → Measured σ us w → 2 * size (spell σ (called outer n us)) ≤ 4 + 4 * outer + w
   size-called outer n us w a =
-      let f : size (masked σ (maskOf (σ n)) (join (paramsFrom 0 outer) us)) ≤ 2 * outer + 2 * w = size-led 0 outer (maskOf (σ n)) us w a in
-      let g : size (callHead (σ n) n) ≤ 2 = size-cond (ltb (σ n) 64) (call n ∷ []) in
+      let f : 2 * size (masked σ (maskOf (σ n)) (join (paramsFrom 0 outer) us)) ≤ 4 * outer + w = size-led 0 outer (maskOf (σ n)) us w a in
+      let g : size (callHead (σ n) n) ≤ 2 = size-cond (ltb (σ n) aloneShape) (call n ∷ []) in
       omega (arith, size-append (callHead (σ n) n) (masked σ (maskOf (σ n)) (join (paramsFrom 0 outer) us)))
 
   bound-place : (b : Binder) → (p : ℕ) × ((i : ℕ) → (i ≡ p → ⊥) → bindsIn b i ≡ 0)
@@ -148,48 +150,54 @@ module _ (σ : ℕ → ℕ) where
       at (suc (suc i)) n = refl
 
   module _ (decls : Declarations) (P : Place) (outer-few : P .outer ≤ maxArity) where
-    size-declared : (l r : ℕ) (us : Terms) (w : ℕ) → Measured σ us w → size (spell σ (declaredIn decls l (P .outer) r us)) ≤ 8 + 2 * w
+    size-declared : (l r : ℕ) (us : Terms) (w : ℕ) → Measured σ us w → 2 * size (spell σ (declaredIn decls l (P .outer) r us)) ≤ 4 * growth + w
     size-declared zero r us w a = let f = a .flat (bindsIn plain) (λ i. refl) in omega arith
     size-declared (suc l) r us w a = let f = size-called (P .outer) (standIn (suc l) r) us w a in omega arith
 
-    size-named : (r : ℕ) (us : Terms) (w : ℕ) → Measured σ us w → size (spell σ (namedIn decls P r us)) ≤ 8 + 2 * w
+    size-named : (r : ℕ) (us : Terms) (w : ℕ) → Measured σ us w → 2 * size (spell σ (namedIn decls P r us)) ≤ 4 * growth + w
     size-named r us w a = go (ltb r maxDefinitions)
       where
-        go : (b : Bool) → size (spell σ (cond b (called (P .outer) (getD (P .numbers) r 0) us) (declaredIn decls (P .level) (P .outer) r us))) ≤ 8 + 2 * w
+        go : (b : Bool) → 2 * size (spell σ (cond b (called (P .outer) (getD (P .numbers) r 0) us) (declaredIn decls (P .level) (P .outer) r us))) ≤ 4 * growth + w
         go true = let f = size-called (P .outer) (getD (P .numbers) r 0) us w a in omega arith
         go false = size-declared (P .level) r us w a
 
-    params-measured : (i p : ℕ) → Measured σ (paramsFrom i p) p
+    params-measured : (i p : ℕ) → Measured σ (paramsFrom i p) (4 * p)
     params-measured i zero = measured-none
-    params-measured i (suc p) = subst (Measured σ (paramsFrom i (suc p))) (omega arith) (measured-more (node (param i) ⟨⟩) (paramsFrom (suc i) p) 1 p (omega arith) (params-measured (suc i) p))
+    params-measured i (suc p) =
+        subst (Measured σ (paramsFrom i (suc p))) (omega arith) (measured-more (node (param i) ⟨⟩) (paramsFrom (suc i) p) 4 (4 * p) (omega arith) (params-measured (suc i) p))
 
     -- what a name implies is short
-    pub implied-short : (p k r : ℕ) → size (spell σ (impliedIn decls P p k r)) ≤ 8 + 2 * k
-    implied-short p k r = size-named r (paramsFrom (P .outer + p) k) k (params-measured (P .outer + p) k)
+    pub implied-short : (p k r : ℕ) → size (spell σ (impliedIn decls P p k r)) ≤ 2 * growth + 2 * k
+    implied-short p k r = let f = size-named r (paramsFrom (P .outer + p) k) (4 * k) (params-measured (P .outer + p) k) in omega arith
 
     module _ (look : ℕ → Token → ℕ) where
-      size-token : (at : ℕ) (t : Token) (us : Terms) (w : ℕ) → isToken t ≡ true → Measured σ us w → size (spell σ (tokenIn look decls P at t us)) ≤ 2 * (widthOf t + w)
+      size-token : (at : ℕ) (t : Token) (us : Terms) (w : ℕ) → isToken t ≡ true → Measured σ us w → 2 * size (spell σ (tokenIn look decls P at t us)) ≤ growth * widthOf t + w
       size-token at (Parameter i) us w h a = omega arith
       size-token at (Bound j) us w h a = omega arith
       size-token at (Name n k) us w h a = let f = size-named (look at (Name n k)) us w a in omega arith
       size-token at (InstanceOperator i n k) us w h a = let f = size-named (look at (InstanceOperator i n k)) us w a in omega arith
       size-token at (BuiltIn c) us w h a =
           let p = bound-place (codeBinder c) in
-          let f : size (spells σ (bindsIn (codeBinder c)) us) ≤ 2 * w + 2 = a .scoped (bindsIn (codeBinder c)) (p .0) (p .1) in
+          let f : 2 * size (spells σ (bindsIn (codeBinder c)) us) ≤ w + 4 = a .scoped (bindsIn (codeBinder c)) (p .0) (p .1) in
           omega arith
       size-token at (Literal v) us w h a = omega arith
       size-token at NoToken us w h a = never (sym h)
 
       mutual
-        size-string : (t : Expr) → AreTokens t → size (spell σ (termIn look decls P t)) ≤ 2 * bytesIn t
-        size-string (node h ts) (a, b) = size-token (h .at) (h .token) (termsIn look decls P ts) (bytesInAll ts) a (size-strings ts b)
+        size-string : (t : Expr) → AreTokens t → 2 * size (spell σ (termIn look decls P t)) ≤ growth * bytesIn t
+        size-string (node h ts) (a, b) =
+            let f : 2 * size (spell σ (tokenIn look decls P (h .at) (h .token) (termsIn look decls P ts))) ≤ growth * widthOf (h .token) + growth * bytesInAll ts =
+            size-token (h .at) (h .token) (termsIn look decls P ts) (growth * bytesInAll ts) a (size-strings ts b) in
+            omega arith
 
-        size-strings : (ts : Exprs) → AllAreTokens ts → Measured σ (termsIn look decls P ts) (bytesInAll ts)
+        size-strings : (ts : Exprs) → AllAreTokens ts → Measured σ (termsIn look decls P ts) (growth * bytesInAll ts)
         size-strings ⟨⟩ u = measured-none
-        size-strings (t ▹ ts) (a, b) = measured-more (termIn look decls P t) (termsIn look decls P ts) (bytesIn t) (bytesInAll ts) (size-string t a) (size-strings ts b)
+        size-strings (t ▹ ts) (a, b) =
+            subst (Measured σ (termsIn look decls P (t ▹ ts))) (omega arith)
+            (measured-more (termIn look decls P t) (termsIn look decls P ts) (growth * bytesIn t) (growth * bytesInAll ts) (size-string t a) (size-strings ts b))
 
-      pub text-short : (n : ℕ) (s : List ℕ) (at : ℕ) (t : Expr) (e : ℕ) → exprAt n s at ≡ found t e → size (spell σ (termIn look decls P t)) ≤ 2 * (e - at)
+      pub text-short : (n : ℕ) (s : List ℕ) (at : ℕ) (t : Expr) (e : ℕ) → exprAt n s at ≡ found t e → 2 * size (spell σ (termIn look decls P t)) ≤ growth * (e - at)
       text-short n s at t e p =
           let q = text-ends n s at t e p in
-          let f : size (spell σ (termIn look decls P t)) ≤ 2 * bytesIn t = size-string t (q .1) in
+          let f : 2 * size (spell σ (termIn look decls P t)) ≤ growth * bytesIn t = size-string t (q .1) in
           omega (arith, q .0)

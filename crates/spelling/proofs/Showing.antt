@@ -17,7 +17,7 @@ use Rattle.tokens.specs.Expr.{Expr, Exprs, Found, exprAt, found}
 use Rattle.tokens.specs.declared.Token.{Token}
 use Rattle.texts.specs.Text.{Declarations, noDeclaration}
 use Rattle.symbols.specs.Symbol.{At, Symbol, bytesOf}
-use Rattle.symbols.specs.Spell.{spell}
+use Rattle.symbols.specs.Spell.{shapeLimit, spell}
 use Rattle.text_levels.proofs.OwnWorld.{AllRefsBelow, RefsBelow}
 use Rattle.unfolding.specs.InWorld.{Place, byRefs, namedIn, termIn}
 use Rattle.spelling.specs.Put.{Put, paste}
@@ -58,7 +58,7 @@ spells-put gs out out′ q′ fits p b e =
 
 shapes-same : (shapes : List ℕ) → ShapesFit shapes → shapeIn shapes ≡ shapesOf shapes
 unfolding shapeIn
-shapes-same shapes h = fun-ext (λ n. rw (lt-ltb (getD shapes n 0) 128 (h n)))
+shapes-same shapes h = fun-ext (λ n. rw (lt-ltb (getD shapes n 0) shapeLimit (h n)))
 
 -- the names of the declarations, by the arrays
 module _ (names declared : List ℕ) (names-fit : (i : ℕ) → getD names i 0 < 65536) where
@@ -131,6 +131,7 @@ pub text-string : (s refs names declared numbers shapes : List ℕ) (at level ou
 text-string s refs names declared numbers shapes at level outer out out′ q′ x fits bytes names-fit w f l =
     let e : fits ≡ leb q′ (length out) = f ∙ ap (leb q′) l in
     record {
+      told = e;
       string = λ decls t y p below few shown fit narrow.
           spells-text names declared names-fit shapes (placeOf level outer numbers) out out′ q′ fits e (byRefs refs) s bytes maxNesting at t y p
           (found-put (byRefs refs) (shapeIn shapes) (declarationsIn names declared) (placeOf level outer numbers) (exprAt maxNesting s at) out 0 out′ q′ x t y p w)

@@ -21,7 +21,7 @@ use Rattle.tokens.specs.declared.Token.the-variants.{BuiltIn, Bound, InstanceOp
 use Rattle.tokens.proofs.Places.{cases}
 use Rattle.texts.specs.Text.{Declarations, noDeclaration}
 use Rattle.symbols.specs.Symbol.{Symbol, begin, bytesOf, call, code, end, name, number, par, symbolBytes, var}
-use Rattle.symbols.specs.Spell.{bracketed, callHead, maskOf, masked, spell, spells}
+use Rattle.symbols.specs.Spell.{aloneShape, bracketed, callHead, maskOf, masked, spell, spells}
 use Rattle.unfolding.specs.InWorld.{Place, called, declaredIn, namedIn, standIn, termIn, termsIn, tokenIn}
 use Rattle.spelling.specs.Strings.{Bytes, Narrow, narrow}
 
@@ -146,7 +146,7 @@ module _ (σ : ℕ → ℕ) where
   small-cond false gs a = tt
 
   small-head : (h n : ℕ) → All small (callHead h n)
-  small-head h n = small-cond (ltb h 64) (call n ∷ []) (tt, tt)
+  small-head h n = small-cond (ltb h aloneShape) (call n ∷ []) (tt, tt)
 
   small-after-params : (i p m : ℕ) (us : Terms) → SmallParts σ us → All small (masked σ m (join (paramsFrom i p) us))
   small-after-params i zero m us a = a .masks m

@@ -3,8 +3,9 @@ use mathlib.Core.Bool.{Bool, false, true}
 use mathlib.Core.List.{List}
 use mathlib.Core.Path.{_≡_}
 use Prim.Native.Nat.{ℕ, _+_, _≤_, _<_}
+use lib.Dec.{leb}
 use lib.ListN.{getD, length}
-use Rattle.limits.specs.Limits.{maxDeclarations, maxDefinitions, maxNesting}
+use Rattle.limits.specs.Limits.{maxArity, maxDeclarations, maxDefinitions, maxNesting}
 use Rattle.theory.specs.Lists.{All}
 use Rattle.theory.specs.Tree.{_▹_, node, ⟨⟩}
 use Rattle.tokens.specs.Expr.{Expr, Exprs, exprAt, found}
@@ -12,7 +13,7 @@ use Rattle.tokens.specs.declared.Token.{Token}
 use Rattle.texts.specs.Noted.{isName}
 use Rattle.texts.specs.Text.{Declarations, noDeclaration}
 use Rattle.symbols.specs.Symbol.{Spelt, Symbol, begin, bytesOf, call, code, end, name, number, par, size, var}
-use Rattle.symbols.specs.Spell.{spell}
+use Rattle.symbols.specs.Spell.{shapeLimit, spell}
 use Rattle.text_levels.proofs.OwnWorld.{RefsBelow}
 use Rattle.standing.specs.Standing.{itselves}
 use Rattle.unfolding.specs.InWorld.{byRefs, impliedIn, termIn}
@@ -24,7 +25,7 @@ abbrev pub shapesOf : List ℕ → ℕ → ℕ
 shapesOf shapes n = getD shapes n 0
 
 abbrev pub ShapesFit : List ℕ → Type 0
-ShapesFit shapes = (n : ℕ) → getD shapes n 0 < 128
+ShapesFit shapes = (n : ℕ) → getD shapes n 0 < shapeLimit
 
 -- the arrays hold the declarations' names
 abbrev pub NamesShown : List ℕ → List ℕ → Declarations → Type 0
@@ -62,8 +63,13 @@ pub record Spells (gs : List Symbol) (out : List ℕ) (room : ℕ) (fits : Bool)
   pub spelt : fits ≡ true → Spelt out 0 gs len × (len ≤ room)
   pub short : fits ≡ false → room < size gs
 
+-- Two bytes of a text have at most so many of its string: a name of four may become a call and the instances' parameters, of two bytes each.
+abbrev pub growth : ℕ
+growth = 1 + maxArity
+
 -- the string of the text at a position
 pub record TextString (s refs names declared numbers shapes : List ℕ) (at level outer : ℕ) (out : List ℕ) (room : ℕ) (fits : Bool) (len : ℕ) : Type 0 where
+  pub told : fits ≡ leb len room
   pub string : (decls : Declarations) (t : Expr) (e : ℕ) → exprAt maxNesting s at ≡ found t e → RefsBelow (maxDefinitions + length decls) refs t
       → length decls ≤ maxDeclarations → NamesShown names declared decls → ShapesFit shapes → Narrow (spell (shapesOf shapes) (termIn (byRefs refs) decls (placeOf level outer numbers) t))
       → Spells (spell (shapesOf shapes) (termIn (byRefs refs) decls (placeOf level outer numbers) t)) out room fits len

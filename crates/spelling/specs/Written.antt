@@ -16,14 +16,14 @@ use Rattle.tokens.specs.Token.{argumentsOf}
 use Rattle.tokens.specs.declared.Token.{Token}
 use Rattle.texts.specs.Text.{Declarations}
 use Rattle.symbols.specs.Symbol.{Symbol, bytesOf, code, par}
-use Rattle.symbols.specs.Spell.{bracketed, spell, spells}
+use Rattle.symbols.specs.Spell.{bracketed, shapeLimit, spell, spells}
 use Rattle.unfolding.specs.InWorld.{Place, called, namedIn, termIn, termsIn, tokenIn}
 use Rattle.spelling.specs.Put.{Put}
 use Rattle.spelling.specs.Parts.{isWritten, parts}
 
--- a shape of the table; one of 128 or more is none
+-- a shape of the table; a number that is too high is none
 unfoldable pub shapeIn : List ℕ → ℕ → ℕ
-shapeIn shapes n = cond (ltb (getD shapes n 0) 128) (getD shapes n 0) 0
+shapeIn shapes n = cond (ltb (getD shapes n 0) shapeLimit) (getD shapes n 0) 0
 
 -- every declaration that two bytes can number, by its code; a string does not show their kinds
 unfoldable pub declarationsIn : List ℕ → List ℕ → Declarations

@@ -5,7 +5,7 @@ ghost use Prim.Native.Nat.{_+_, _-_, _*_, _/_, _<_, _^_, _≤_};
 ghost use lib.ListN.{getD};
 ghost use Rattle.limits.specs.Limits.{maxArity, maxDefinitions};
 ghost use Rattle.symbols.specs.Symbol.{bytesOf};
-ghost use Rattle.symbols.specs.Spell.{callHead, maskOf};
+ghost use Rattle.symbols.specs.Spell.{callHead, maskOf, shapeLimit};
 ghost use Rattle.texts.specs.Text.{noDeclaration};
 ghost use Rattle.spelling.specs.Put.{Put};
 ghost use Rattle.spelling.specs.Parts.{isWritten};
@@ -19,34 +19,38 @@ use crate::put::put_pair;
 use crate::put::put_parameter;
 use context::lists::number_at;
 use limits::Limits;
+use symbols::Shape;
 use tokens::Token;
-use tokens::byte_at;
 
 // The shape of what a number calls.
-fn shape_at(shapes: &[u8], n: usize) -> u8
-    ensures { λ r. ⌜ (r ≡ shapeIn (now (shapes .entry)) n) × (r < 128) ⌝ }
+fn shape_at(shapes: &[u32], n: usize) -> u32
+    ensures { λ r. ⌜ (r ≡ shapeIn (now (shapes .entry)) n) × (r < shapeLimit) ⌝ }
 {
-    let h = byte_at(shapes, n);
-    if h < 128 { h } else { 0 }
+    let h = symbols::shape_at(shapes, n);
+    if h < Shape::LIMIT { h } else { 0 }
 }
 
-fn mask_of(h: u8) -> u64
-    requires { ⌜ h < 128 ⌝ }
+fn mask_of(h: u32) -> u64
+    requires { ⌜ h < shapeLimit ⌝ }
     ensures { λ r. ⌜ r ≡ maskOf h ⌝ }
 {
-    if h < 64 {
+    if h < Shape::ALONE {
         h as u64
     } else {
-        1 << ((h - 64) as u64)
+        1 << ((h - Shape::ALONE) as u64)
     }
 }
 
 // A call of a definition that is one of its parameters is passed over.
-fn call_head(out: &mut [u8], q: usize, h: u8, n: usize) -> usize
+fn call_head(out: &mut [u8], q: usize, h: u32, n: usize) -> usize
     requires { ⌜ n < 2 ^ 32 ⌝ }
     ensures { λ r. ⌜ Put (now (out .entry)) q (bytesOf (callHead h n)) (now (out .exit)) r ⌝ }
 {
-    if h < 64 { put_call(out, q, n) } else { q }
+    if h < Shape::ALONE {
+        put_call(out, q, n)
+    } else {
+        q
+    }
 }
 
 // Whether the first of the arguments left is written.
@@ -97,7 +101,7 @@ pub fn leads(out: &mut [u8], i: usize, p: usize, rest: Rest) -> Rest
 }
 
 // A call of n, the instances' parameters first among its arguments.
-pub fn call(shapes: &[u8], out: &mut [u8], n: usize, outer: usize, q: usize) -> Rest
+pub fn call(shapes: &[u32], out: &mut [u8], n: usize, outer: usize, q: usize) -> Rest
     requires { ⌜ (n < 2 ^ 32) × (outer ≤ maxArity) ⌝ }
     ensures { λ r. ⌜ Called (shapeIn (now (shapes .entry))) outer n (now (out .entry)) q (now (out .exit)) (r .all) (r .mask) (r .binds) (r .to) ⌝ }
 {
@@ -128,7 +132,7 @@ pub fn named(
     names: &[u16],
     declared: &[u16],
     numbers: &[u16],
-    shapes: &[u8],
+    shapes: &[u32],
     out: &mut [u8],
     r: usize,
     k: u8,
@@ -192,7 +196,7 @@ pub fn head(
     names: &[u16],
     declared: &[u16],
     numbers: &[u16],
-    shapes: &[u8],
+    shapes: &[u32],
     out: &mut [u8],
     t: Token,
     r: u16,

@@ -29,6 +29,7 @@ use Rattle.streaming.specs.declared.Depth.{Depth}
 use Rattle.streaming.specs.declared.Now.{Now}
 use Rattle.streaming.specs.declared.Stepped.{Stepped}
 use Rattle.streaming.specs.declared.Stepped.the-variants.{Finished, Lost, On, Short}
+use Rattle.symbols.specs.Spell.{maxParams}
 
 -- what is noted of the brackets open, by position
 module _ (env : List ℕ) where
@@ -179,10 +180,10 @@ module _ (g : Symbol) (called : Bool) (known : ℕ) (env out : List ℕ) (s : No
   writes h env′ out′ f Lost e l u w = tt
 
 -- the words of a call
-module _ (l : Layout) (r : ℕ) (few : l .places ≤ 6) (wide : l .stride ≡ l .places + 3) (small : r < 2 ^ 21) where
-  pub word-small : r * l .stride + l .places < 2 ^ 25
+module _ (l : Layout) (r : ℕ) (few : l .places ≤ maxParams) (wide : l .stride ≡ l .places + 3) (small : r < 2 ^ 21) where
+  pub word-small : r * l .stride + l .places < 2 ^ 26
   word-small =
-      let a : r * l .stride ≤ r * 9 = mul-le-mul-left r (omega arith) in
+      let a : r * l .stride ≤ r * (maxParams + 3) = mul-le-mul-left r (omega arith) in
       omega arith
 
   pub row-fits : r * l .stride < 2 ^ 64

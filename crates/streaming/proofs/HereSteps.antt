@@ -14,7 +14,7 @@ use native.Mathlib.Omega.{arith}
 use Prim.Native.Nat.{ℕ, suc, _+_, _-_, _*_, _/_, _%_, _^_, _≤_, _<_, min}
 use Rattle.context.proofs.Lookups.{cond-cases}
 use Rattle.symbols.proofs.Sizes.{any-right, size-append}
-use Rattle.symbols.specs.Spell.{masked, spell}
+use Rattle.symbols.specs.Spell.{masked, maxParams, spell}
 use Rattle.symbols.specs.Symbol.{Spelt, Symbol, after, begin, bytesOf, call, calls, code, end, fill, isWide, name, number, par, size, var, wide}
 use Rattle.strings.proofs.Written.{sets-at, sets-below, spelt-same}
 use Rattle.strings.proofs.Reading.{width-some}
@@ -270,7 +270,7 @@ module _ (x : Task) (a template : List ℕ) (tlen : ℕ) (shapes : List ℕ) (n 
             read = d .posed .templated .spelt;
             closes = closes-spell (x .sense .shape) (x .text);
             depth = u .depth;
-            part = subst (λ (i : ℕ). Part x a (lastFrom a shapes 6 (getD shapes n 0) (i + 2)) (s .e) (u .depth) (c .ks)) (h .place) (c .after .part);
+            part = subst (λ (i : ℕ). Part x a (lastFrom a shapes maxParams (getD shapes n 0) (i + 2)) (s .e) (u .depth) (c .ks)) (h .place) (c .after .part);
             around = u .around;
             based = u .based;
             below = u .below;

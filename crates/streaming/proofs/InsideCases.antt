@@ -9,6 +9,7 @@ use native.Mathlib.Nat.{mul-le-mul-right}
 use native.Mathlib.Omega.{arith}
 use Prim.Native.Nat.{ℕ, _+_, _-_, _*_, _/_, _%_, _^_, _<_, _≤_}
 use Rattle.theory.proofs.Lists.{never}
+use Rattle.symbols.specs.Spell.{maxParams}
 use Rattle.symbols.specs.Symbol.{Symbol, after, isWide, size}
 use Rattle.strings.specs.Laid.{Laid}
 use Rattle.strings.specs.Read.{symbolOf, widthOf}
@@ -23,7 +24,7 @@ use Rattle.streaming.specs.Inside.{Entered, Goes, Left, NoRoom, PlaceKep
 use Rattle.streaming.specs.declared.Now.{Now}
 use Rattle.streaming.specs.declared.Stepped.{Stepped}
 
-pub words-small : (top stride : ℕ) → top < 2 ^ 21 → stride ≤ 9 → (top - 1) * stride < 2 ^ 25
+pub words-small : (top stride : ℕ) → top < 2 ^ 21 → stride ≤ maxParams + 3 → (top - 1) * stride < 2 ^ 26
 words-small top stride h k =
     let m : top - 1 ≤ 2097151 = omega arith in
     let a : (top - 1) * stride ≤ 2097151 * stride = mul-le-mul-right stride m in

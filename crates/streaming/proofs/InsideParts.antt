@@ -14,7 +14,7 @@ use Rattle.theory.proofs.Lists.{never}
 use Rattle.theory.specs.Expand.{nothing}
 use Rattle.theory.specs.Tree.{nth}
 use Rattle.symbols.proofs.Sizes.{any-right}
-use Rattle.symbols.specs.Spell.{occurring, shapeOf, spell}
+use Rattle.symbols.specs.Spell.{aloneShape, maxParams, occurring, shapeOf, spell}
 use Rattle.symbols.specs.Symbol.{Symbol, bytesOf, call, fill, isPar, par, sees, size, symbolBytes}
 use Rattle.strings.proofs.Reading.{width-some}
 use Rattle.strings.specs.Read.{stringAt, symbolAt}
@@ -95,10 +95,10 @@ module _ (x : Task) (a template : List ℕ) (tlen : ℕ) (shapes : List ℕ) (n 
         ap (λ (gs : List Symbol). sees i gs) (w .text ∙ ap (λ (gs : List Symbol). w .passed ++ gs) (o .whole))
         ∙ any-right (isPar i) (w .passed) (par i ∷ o .more) (ap (λ (b : Bool). b || sees i (o .more)) (eq-eqb i i refl))
 
-    within : i < 6
+    within : i < maxParams
     within = go (decLt i (x .arity))
       where
-        go : Dec (i < x .arity) → i < 6
+        go : Dec (i < x .arity) → i < maxParams
         go (yes k) = omega (arith, z .posed .templated .callee .few)
         go (no k) =
             never (sym occurs ∙ unseen (x .sense .shape) (x .sense .arity) (x .arity) i (omega arith) (x .text) 0 (z .posed .templated .callee .stands .formed))
@@ -107,9 +107,9 @@ module _ (x : Task) (a template : List ℕ) (tlen : ℕ) (shapes : List ℕ) (n 
     bit =
         let text : List Symbol = spell (x .sense .shape) (x .text) in
         let same : getD shapes n 0 ≡ shapeOf text = sym (z .posed .templated .shaped n) ∙ z .posed .templated .callee .shape in
-        let bits : getD shapes n 0 ≡ occurring 6 0 text = same ∙ shape-bits text (subst (λ (m : ℕ). m < 64) same (calls-it .2 .small)) in
+        let bits : getD shapes n 0 ≡ occurring maxParams 0 text = same ∙ shape-bits text (subst (λ (m : ℕ). m < aloneShape) same (calls-it .2 .small)) in
         let y : 0 + i ≡ i = omega arith in
-        ap (bitAt i) bits ∙ occurring-bit 6 0 i text within (ap (λ (j : ℕ). sees j text) y ∙ occurs)
+        ap (bitAt i) bits ∙ occurring-bit maxParams 0 i text within (ap (λ (j : ℕ). sees j text) y ∙ occurs)
 
     cs : List Symbol
     cs = spell (x .sense .shape) (nth nothing (calls-it .2 .us) i)
@@ -184,13 +184,13 @@ module _ (x : Task) (a template : List ℕ) (tlen : ℕ) (shapes : List ℕ) (n 
     based-here : s .b ≡ v .f .base
     based-here = omega (arith, v .based, closed-all)
 
-    place : (wordAt table (cellAt l s (l .places)) / 16384 ≡ lastFrom a shapes 6 (getD shapes n 0) (size (v .link .start) + 2))
-        × (wordAt table (cellAt l s (l .places)) % 16384 ≡ rankAt known n a (lastFrom a shapes 6 (getD shapes n 0) (size (v .link .start) + 2)))
+    place : (wordAt table (cellAt l s (l .places)) / 16384 ≡ lastFrom a shapes maxParams (getD shapes n 0) (size (v .link .start) + 2))
+        × (wordAt table (cellAt l s (l .places)) % 16384 ≡ rankAt known n a (lastFrom a shapes maxParams (getD shapes n 0) (size (v .link .start) + 2)))
     place =
         let w = v .link in
         let y = place-word x a template tlen shapes n l known table z (v .fs) (v .f) w (l .places) (omega arith) in
         let c = calls-it x a template tlen shapes n l known table z (v .fs) (v .f) w in
-        let last : lastFrom a shapes (l .places) (getD shapes n 0) (size (w .start) + 2) ≡ lastFrom a shapes 6 (getD shapes n 0) (size (w .start) + 2) =
+        let last : lastFrom a shapes (l .places) (getD shapes n 0) (size (w .start) + 2) ≡ lastFrom a shapes maxParams (getD shapes n 0) (size (w .start) + 2) =
         ap (λ (k : ℕ). lastFrom a shapes k (getD shapes n 0) (size (w .start) + 2)) (z .places)
         ∙ last-places x a n template tlen shapes (z .posed) (getD shapes n 0) (size (w .start) + 2) (c .2 .small) in
         let e : wordAt table (cellAt l s (l .places)) ≡ wordAt table (v .f .rank * l .stride + l .places) =
@@ -201,7 +201,7 @@ module _ (x : Task) (a template : List ℕ) (tlen : ℕ) (shapes : List ℕ) (n 
     left-on =
         let w = v .link in
         let c = calls-it x a template tlen shapes n l known table z (v .fs) (v .f) w in
-        let at : ℕ = lastFrom a shapes 6 (getD shapes n 0) (size (w .start) + 2) in
+        let at : ℕ = lastFrom a shapes maxParams (getD shapes n 0) (size (w .start) + 2) in
         let y = behind-rank x a template tlen shapes n l known table z (v .fs) (v .f) w at (v .f .e) (w .depth) (c .0) (c .1) (v .f .after) (c .2 .ks) (w .part) (c .2 .after) in
         record {
           kept = v .kept;

@@ -4,7 +4,7 @@ use mathlib.Core.List.{List, [], _++_, _∷_}
 use mathlib.Core.Path.{_≡_}
 use Prim.Native.Nat.{ℕ, suc, _+_, _*_, _/_, _%_, _≤_, _<_, min}
 use lib.ListN.{getD, length}
-use Rattle.symbols.specs.Spell.{spell}
+use Rattle.symbols.specs.Spell.{maxParams, spell}
 use Rattle.symbols.specs.Symbol.{Spelt, Symbol, call, fill, size}
 use Rattle.strings.specs.Read.{stringAt}
 use Rattle.rewriting.specs.Ends.{lastFrom}
@@ -75,7 +75,7 @@ pub record Link (x : Task) (a template : List ℕ) (tlen : ℕ) (shapes : List �
   pub closes : Closes (f .unclosed) (f .rest)
   -- the string's rest
   pub depth : ℕ
-  pub part : Part x a (lastFrom a shapes 6 (getD shapes n 0) (size start + 2)) (f .e) depth (f .after)
+  pub part : Part x a (lastFrom a shapes maxParams (getD shapes n 0) (size start + 2)) (f .e) depth (f .after)
   pub around : Around (f .env) depth fs
   pub based : f .base ≡ baseOf fs
   pub below : Below (f .base) (f .env)

@@ -9,7 +9,8 @@ use Rattle.symbols.specs.Symbol.{Spelt}
 use Rattle.rewriting.specs.Going.{Kept, Over}
 use Rattle.rewriting.specs.Rewritten.{Posed, Task}
 use Rattle.streaming.specs.Course.{Underway}
-use Rattle.cells.specs.Table.{Sized, Tabled, placesOf}
+use Rattle.rewriting.specs.Ends.{placesOf}
+use Rattle.cells.specs.Table.{Sized, Tabled}
 use Rattle.streaming.specs.declared.Now.{Now}
 use Rattle.streaming.specs.declared.Stepped.{Stepped}
 use Rattle.streaming.specs.declared.Stepped.the-variants.{Finished, Lost, On, Short}

@@ -3,6 +3,7 @@ ghost use mathlib.Core.Bool.{false};
 ghost use mathlib.Core.Path.{_≡_};
 ghost use Prim.Native.Nat.{_+_, _*_, _^_, _≤_, _<_, _-_};
 ghost use lib.ListN.{length};
+ghost use Rattle.symbols.specs.Spell.{maxParams};
 ghost use Rattle.symbols.specs.Symbol.{begin, isWide};
 ghost use Rattle.strings.specs.Read.{isFar, symbolOf};
 ghost use Rattle.shifting.specs.Shift.{noted, shiftOne};
@@ -150,8 +151,8 @@ fn write_here(g: Sign, call: bool, known: usize, env: &mut [u16], out: &mut [u8]
 
 // The word of call r before the two that a run keeps.
 fn last_place(l: Layout, r: usize) -> usize
-    requires { ⌜ (l .places ≤ 6) × (l .stride ≡ l .places + 3) × (r < 2 ^ 21) ⌝ }
-    ensures { λ v. ⌜ (v ≡ r * l .stride + l .places) × (v < 2 ^ 25) ⌝ }
+    requires { ⌜ (l .places ≤ maxParams) × (l .stride ≡ l .places + 3) × (r < 2 ^ 21) ⌝ }
+    ensures { λ v. ⌜ (v ≡ r * l .stride + l .places) × (v < 2 ^ 26) ⌝ }
 {
     r * l.stride + l.places
 }
@@ -179,7 +180,7 @@ fn enter_call(table: &mut [u8], l: Layout, s: Now) -> Now
 
 // The end of a part: of the string, or of an argument; then the template goes on.
 fn leave_part(table: &[u8], l: Layout, s: Now) -> Stepped
-    requires { ⌜ (l .places ≤ 6) × (l .stride ≡ l .places + 3) × (s .top < 2 ^ 21) ⌝ }
+    requires { ⌜ (l .places ≤ maxParams) × (l .stride ≡ l .places + 3) × (s .top < 2 ^ 21) ⌝ }
     ensures { λ r. ⌜ r ≡ leaving l (now (table .entry)) s ⌝ }
 {
     if s.top == 0 {

@@ -3,6 +3,7 @@ ghost use mathlib.Core.Path.{_≡_};
 ghost use mathlib.Core.Bool.{false};
 ghost use Prim.Native.Nat.{_+_, _*_, _-_, _^_, _<_, _≤_};
 ghost use lib.ListN.{length};
+ghost use Rattle.symbols.specs.Spell.{maxParams};
 ghost use Rattle.symbols.specs.Symbol.{isWide};
 ghost use Rattle.strings.specs.Read.{isFar, symbolOf};
 ghost use Rattle.cells.specs.Table.{Sized};
@@ -21,8 +22,8 @@ use strings::width;
 
 // Where the words of the call entered last begin.
 fn words_at(top: usize, stride: usize) -> usize
-    requires { ⌜ (0 < top) × (top < 2 ^ 21) × (stride ≤ 9) ⌝ }
-    ensures { λ r. ⌜ (r ≡ (top - 1) * stride) × (r < 2 ^ 25) ⌝ }
+    requires { ⌜ (0 < top) × (top < 2 ^ 21) × (stride ≤ maxParams + 3) ⌝ }
+    ensures { λ r. ⌜ (r ≡ (top - 1) * stride) × (r < 2 ^ 26) ⌝ }
 {
     (top - 1) * stride
 }

@@ -1,8 +1,8 @@
 -- Strings, shapes and a replacement by computation: 0(p) == p', 1(p, q) == q, 2(p, q, r) == \E x : 0(r) = x, where 1 is passed over and p and q of 2 are dropped.
 use mathlib.Core.List.{List, [], _∷_}
 use mathlib.Core.Path.{_≡_, refl}
-use Prim.Native.Nat.{ℕ, zero, suc}
-use Rattle.symbols.specs.Spell.{maskOf, shapeOf, spell}
+use Prim.Native.Nat.{ℕ, zero, suc, _+_}
+use Rattle.symbols.specs.Spell.{aloneShape, maskOf, shapeOf, spell}
 use Rattle.symbols.specs.Symbol.{Symbol, begin, call, code, end, name, par, strip, var}
 use Rattle.theory.specs.Level.{row}
 use Rattle.theory.specs.Term.{Term, bound, builtin, constant, declared, defined, param}
@@ -21,10 +21,10 @@ text₂ = node (builtin 128) (node (builtin 48) (node (defined 0) (p 2 ▹ ⟨�
 
 abbrev σ : ℕ → ℕ
 σ zero = 1
-σ (suc zero) = 65
+σ (suc zero) = aloneShape + 1
 σ (suc (suc n)) = 4
 
-pub shapes : shapeOf (spell σ text₀) ∷ shapeOf (spell σ (p 1)) ∷ shapeOf (spell σ text₂) ∷ maskOf 65 ∷ [] ≡ 1 ∷ 65 ∷ 4 ∷ 2 ∷ []
+pub shapes : shapeOf (spell σ text₀) ∷ shapeOf (spell σ (p 1)) ∷ shapeOf (spell σ text₂) ∷ maskOf (aloneShape + 1) ∷ [] ≡ 1 ∷ (aloneShape + 1) ∷ 4 ∷ 2 ∷ []
 unfolding row
 shapes = refl
 

@@ -10,7 +10,7 @@ use native.Mathlib.Nat.{zero-add}
 use native.Mathlib.Omega.{arith}
 use Prim.Native.Nat.{_%_, _+_, _-_, _/_, _^_, _≤_, suc, zero, ℕ}
 use Rattle.symbols.proofs.Sizes.{weight-append}
-use Rattle.symbols.specs.Spell.{bracketed, callHead, maskOf, masked, spell, spells}
+use Rattle.symbols.specs.Spell.{aloneShape, bracketed, callHead, maskOf, masked, spell, spells}
 use Rattle.symbols.specs.Symbol.{Symbol, call, end}
 use Rattle.symbols.specs.Weight.{weight}
 use Rattle.theory.proofs.ExpandFirst.{length-evals}
@@ -42,7 +42,7 @@ module _ (σ : ℕ → ℕ) (ar : Arities) (S : ℕ → List ℕ → ℕ) (p : �
   call-below : (n : ℕ) (ts : Terms) (k : ℕ) → SizeRight σ ar S n → ar n ≡ some (count ts)
       → ((m : ℕ) → weight at (masked σ m ts) ≤ picked m (values N ls (replicate k 3) ts))
       → weight at (callHead (σ n) n ++ masked σ (maskOf (σ n)) ts) ≤ S n (values N ls (replicate k 3) ts)
-  call-below n ts k r w below = go (ltb (σ n) 64) refl
+  call-below n ts k r w below = go (ltb (σ n) aloneShape) refl
     where
       vs : List ℕ
       vs = values N ls (replicate k 3) ts
@@ -50,12 +50,12 @@ module _ (σ : ℕ → ℕ) (ar : Arities) (S : ℕ → List ℕ → ℕ) (p : �
       many : ar n ≡ some (length vs)
       many = w ∙ ap some (sym (length-evals N ls (replicate k 3) 0 (bindsIn plain) ts))
 
-      go : (b : Bool) → ltb (σ n) 64 ≡ b → weight at (cond b (call n ∷ []) [] ++ masked σ (maskOf (σ n)) ts) ≤ S n vs
+      go : (b : Bool) → ltb (σ n) aloneShape ≡ b → weight at (cond b (call n ∷ []) [] ++ masked σ (maskOf (σ n)) ts) ≤ S n vs
       go true q =
           let m : weight at (masked σ (maskOf (σ n)) ts) ≤ picked (σ n) vs = subst (λ (x : ℕ). weight at (masked σ x ts) ≤ picked (σ n) vs) (sym (mask-below (σ n) q)) (below (σ n)) in
-          omega (arith, r .1 (ltb-true (σ n) 64 q) vs many)
+          omega (arith, r .1 (ltb-true (σ n) aloneShape q) vs many)
       go false q =
-          let j : ℕ = σ n - 64 in
+          let j : ℕ = σ n - aloneShape in
           let m : weight at (masked σ (maskOf (σ n)) ts) ≤ picked (2 ^ j) vs = subst (λ (x : ℕ). weight at (masked σ x ts) ≤ picked (2 ^ j) vs) (sym (mask-alone (σ n) q)) (below (2 ^ j)) in
           let s : S n vs ≡ getD vs j 0 = r .0 .0 j (alone-index (σ n) q) vs many in
           let o : picked (2 ^ j) vs ≡ getD vs j 0 = picked-one j vs in

@@ -1,4 +1,4 @@
--- The calls and parameters of a chain's texts are such as a string's bytes can hold: calls below 1280, at most six parameters.
+-- The calls and parameters of a chain's texts are such as a string's bytes can hold: calls below 1280, no more parameters than a shape has bits for.
 use mathlib.Core.Bool.{true}
 use mathlib.Core.List.{List}
 use mathlib.Core.Option.{some}
@@ -25,6 +25,7 @@ use Rattle.unfolding.specs.CalleeTerm.{Entered, ownTerm, standInTerm}
 use Rattle.unfolding.specs.StandIn.{aritiesAlong, outermost}
 use Rattle.unfolding.proofs.Callees.{own-unfolds, standin-term}
 use Rattle.unfolding.proofs.ShapeSteps.{calls-near, own-calls, standin-calls}
+use Rattle.symbols.specs.Spell.{maxParams}
 
 -- the calls along a chain whose numbers two bytes of a string hold
 abbrev pub nearArities : State → Declarations → World → Arities
@@ -49,7 +50,7 @@ module _ (file refs : List ℕ) (v : Store) (declared : List ℕ) (n D : ℕ) (c
       (ownTerm file refs (v .facts) decls k numbers currents outers)
       (own-calls file refs v declared n D c s rs decls end ready there room k numbers currents outers e))
 
-  pub own-few : paramsOf s D ≤ 6
+  pub own-few : paramsOf s D ≤ maxParams
   own-few = own-unfolds file refs v declared n D c s rs decls end ready there room k numbers currents outers e bytes .few
 
   module _ (l i : ℕ) (on : l < k) (named : NamedIn decls (outermost (suc l) (worldOf rs D)) i) where
@@ -63,5 +64,5 @@ module _ (file refs : List ℕ) (v : Store) (declared : List ℕ) (n D : ℕ) (c
         (standInTerm file refs v decls numbers currents outers l i)
         (standin-calls file refs v declared n D c s rs decls end ready there room k numbers currents outers e l i on named))
 
-    pub standin-few : outerAfter (v .facts) (getD outers l 0) (getD currents l 0) + kindArity (getD decls i noDeclaration .0) ≤ 6
+    pub standin-few : outerAfter (v .facts) (getD outers l 0) (getD currents l 0) + kindArity (getD decls i noDeclaration .0) ≤ maxParams
     standin-few = standin-term file refs v declared n D c s rs decls end ready there room k numbers currents outers e l i on named bytes .few

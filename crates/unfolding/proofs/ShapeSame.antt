@@ -8,7 +8,7 @@ use lib.Dec.{eqb, ltb}
 use lib.ListN.{getD}
 use native.Mathlib.Omega.{arith}
 use Prim.Native.Nat.{_*_, _+_, _<_, _≤_, suc, zero, ℕ}
-use Rattle.symbols.specs.Spell.{occurring, shapeOf, spell}
+use Rattle.symbols.specs.Spell.{aloneShape, maxParams, occurring, shapeLimit, shapeOf, spell}
 use Rattle.symbols.specs.Symbol.{Symbol, begin, call, code, end, name, number, par, sees, var}
 use Rattle.symbols.specs.Weight.{weight}
 use Rattle.theory.proofs.Lists.{never}
@@ -85,14 +85,14 @@ module _ (g : Sense) (p : ℕ) where
             never (sym (ap (λ (b : Bool). b || false) (eq-eqb i i refl)) ∙ z)
 
     -- a shape takes seven bits
-    pub shape-low : p ≤ 6 → shapeOf (spell (g .shape) t) < 70
+    pub shape-low : p ≤ maxParams → shapeOf (spell (g .shape) t) < shapeLimit
     shape-low few = go (solid-cases (spell σ t) solid)
       where
-        go : Single (spell σ t) ⊎ Compound (spell σ t) → shapeOf (spell σ t) < 70
+        go : Single (spell σ t) ⊎ Compound (spell σ t) → shapeOf (spell σ t) < shapeLimit
         go (inl (i, q)) =
-            let s : shapeOf (spell σ t) ≡ 64 + i = ap shapeOf q in
+            let s : shapeOf (spell σ t) ≡ aloneShape + i = ap shapeOf q in
             omega (arith, alone-below i q)
-        go (inr c) = omega (arith, c .shape, occurring-few 6 0 (spell σ t))
+        go (inr c) = omega (arith, c .shape, occurring-few maxParams 0 (spell σ t))
 
     pub alone-long : (i : ℕ) → spell (g .shape) t ≡ par i ∷ [] → (ls : List ℕ) → eval (withDefined sizes (g .asSizes)) ls [] t ≡ getD ls i 0
     alone-long i q ls =
@@ -160,6 +160,6 @@ module _ (g : Sense) (p : ℕ) where
       go (inr c) (inl (j, r)) = absurd (alone-not u t b a back j r c)
       go (inr c) (inr d) =
           c .shape
-          ∙ occurring-same 6 0 (spell σ t) (spell σ u)
+          ∙ occurring-same maxParams 0 (spell σ t) (spell σ u)
           (λ i. seen-same (sees i (spell σ t)) (sees i (spell σ u)) (seen-both t u a b there i) (seen-both u t b a back i))
           ∙ sym (d .shape)

@@ -7,7 +7,7 @@ use native.Mathlib.Decide.{decLt}
 use native.Mathlib.Omega.{arith}
 use Prim.Native.Nat.{_*_, _+_, _<_, _≤_, suc, ℕ}
 use Rattle.limits.specs.Limits.{maxDeclarations, maxDefinitions}
-use Rattle.symbols.specs.Spell.{shapeOf, spell}
+use Rattle.symbols.specs.Spell.{shapeLimit, shapeOf, spell}
 use Rattle.theory.proofs.Bytes.{bytes}
 use Rattle.theory.proofs.Size.{sizes}
 use Rattle.theory.specs.Term.{Term, kindArity}
@@ -191,7 +191,7 @@ module _ (file refs : List ℕ) (v : Store) (declared : List ℕ) (n D : ℕ) (c
               (level-right file refs v declared n D c s rs decls end ready there room k numbers currents outers e σ below k (omega arith) shaped) own own-calls;
         }
 
-    pub own-low : StandInsShaped file refs v rs decls D numbers currents outers σ k → shapeOf (spell σ (ownTerm file refs (v .facts) decls k numbers currents outers)) < 70
+    pub own-low : StandInsShaped file refs v rs decls D numbers currents outers σ k → shapeOf (spell σ (ownTerm file refs (v .facts) decls k numbers currents outers)) < shapeLimit
     own-low shaped =
         shape-low (senseAlong s decls W σ) (paramsOf s D) own (own-stands shaped)
         (own-unfolds file refs v declared n D c s rs decls end ready there room k numbers currents outers e bytes .few)
@@ -209,7 +209,7 @@ module _ (file refs : List ℕ) (v : Store) (declared : List ℕ) (n D : ℕ) (c
         }
 
     pub standin-low : (l i : ℕ) → l < k → NamedIn decls (outermost (suc l) (worldOf rs D)) i → StandInsShaped file refs v rs decls D numbers currents outers σ l
-        → shapeOf (spell σ (standInTerm file refs v decls numbers currents outers l i)) < 70
+        → shapeOf (spell σ (standInTerm file refs v decls numbers currents outers l i)) < shapeLimit
     standin-low l i on named shaped =
         shape-low (senseAlong s decls W σ) _ (term l i) (standin-stands l i on named shaped)
         (standin-term file refs v declared n D c s rs decls end ready there room k numbers currents outers e l i on named bytes .few)

@@ -10,7 +10,7 @@ use lib.ListN.{drop, getD, length}
 use native.Mathlib.Omega.{arith}
 use Prim.Native.Nat.{_*_, _+_, _-_, _<_, _≤_, suc, zero, ℕ}
 use Rattle.limits.specs.Limits.{maxArity, maxDeclarations, maxDefinitions}
-use Rattle.symbols.specs.Spell.{spell}
+use Rattle.symbols.specs.Spell.{maxParams, spell}
 use Rattle.symbols.specs.Symbol.{Symbol, begin, call, calls, code, end, name, number, par, var}
 use Rattle.theory.proofs.Lists.{never}
 use Rattle.theory.specs.Expand.{aritiesOf}
@@ -231,11 +231,11 @@ module _ (file refs : List ℕ) (v : Store) (declared : List ℕ) (n D : ℕ) (c
       let i = inside file refs v declared n D c s rs decls end ready there in
       omega (arith, params-drop (length W - l) W, world-params s rs (ready .worlds) (ready .sound) D i, ready .params D i)
 
-  -- no call along a chain has more than six arguments
-  pub few-along : (h m : ℕ) → aritiesAlong s decls (worldOf rs D) h ≡ some m → m ≤ 6
+  -- no call along a chain has more arguments than a shape has bits for
+  pub few-along : (h m : ℕ) → aritiesAlong s decls (worldOf rs D) h ≡ some m → m ≤ maxParams
   few-along h m q = go (ltb h maxDefinitions) refl
     where
-      go : (b : Bool) → ltb h maxDefinitions ≡ b → m ≤ 6
+      go : (b : Bool) → ltb h maxDefinitions ≡ b → m ≤ maxParams
       go true x =
           omega (arith, arity-few s (ready .sound) (ready .params) h m (sym (arity-defined s decls W h (ltb-true h maxDefinitions x)) ∙ q))
       go false x =

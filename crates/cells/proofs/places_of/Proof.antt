@@ -1,38 +1,33 @@
+use Prim.Native.Nat.{_-_}
 use borrow.Author.Needs.{needs}
-use borrow.Author.Tests.{le-leb, lt-leb}
+use Rattle.symbols.specs.Spell.{maxParams}
+use Rattle.cells.proofs.Cells.{Counted, counted-all, counted-few, counted-none, counted-turn, counted-zero}
 use Rattle.cells.proofs.places_of.Statement.{statement}
 use Rattle.cells.proofs.places_of.Tie as tie
-use Rattle.cells.proofs.places_of.Reads as reads
-use Rattle.cells.proofs.places_of.Lts as lts
 
--- src/lib.rt:52:9
-returns : tie.Need-returns
-returns c = (search (needs, le-leb, lt-leb), search needs)
+abbrev Inv-loop : tie.InvT-loop
+Inv-loop h rest₀ k₀ rest k = Counted h rest k
 
--- src/lib.rt:55:9
-returns-2 : tie.Need-returns-2
-returns-2 c = (search (needs, le-leb, lt-leb), search needs)
+abbrev μ-loop : tie.MeasureT-loop
+μ-loop h rest₀ k₀ rest k = maxParams - k
 
--- src/lib.rt:58:9
-returns-3 : tie.Need-returns-3
-returns-3 c = (search (needs, le-leb, lt-leb), search needs)
+loop-holds : tie.Need-loop-holds Inv-loop μ-loop
+loop-holds c = search counted-none
 
--- src/lib.rt:61:9
-returns-4 : tie.Need-returns-4
-returns-4 c = (search (needs, le-leb, lt-leb), search needs)
+returns : tie.Need-returns Inv-loop μ-loop
+returns c = (search counted-zero, search counted-few)
 
--- src/lib.rt:64:9
-returns-5 : tie.Need-returns-5
-returns-5 c = (search (needs, le-leb, lt-leb), search needs)
+add-k : tie.Need-add-k Inv-loop μ-loop
+add-k c = search needs
 
--- src/lib.rt:48:1
-returns-6 : tie.Need-returns-6
-returns-6 c = (search (needs, le-leb, lt-leb), search needs)
+loop-less : tie.Need-loop-less Inv-loop μ-loop
+loop-less c = search needs
 
--- src/lib.rt:48:1
-returns-7 : tie.Need-returns-7
-returns-7 c = (search (needs, le-leb, lt-leb), search needs)
+loop-again : tie.Need-loop-again Inv-loop μ-loop
+loop-again c = search counted-turn
+
+returns-2 : tie.Need-returns-2 Inv-loop μ-loop
+returns-2 c = (search counted-all, search counted-few)
 
 pub places-of-spec : {M : Type 1} → statement M
-places-of-spec =
-    tie.close (tie.spec returns returns-2 returns-3 returns-4 returns-5 returns-6 returns-7)
+places-of-spec = tie.close (tie.spec Inv-loop μ-loop loop-holds returns add-k loop-less loop-again returns-2)

@@ -8,11 +8,11 @@ use Rattle.replacing.proofs.one_round.Lts as lts
 use Rattle.call_table.proofs.note_calls.Reads as note-calls-reads
 use Rattle.cells.proofs.layout_of.Reads as layout-of-reads
 use Rattle.replacing.proofs.replace_noted.Reads as replace-noted-reads
-use Rattle.tokens.proofs.byte_at.Reads as byte-at-reads
+use Rattle.symbols.proofs.shape_at.Reads as shape-at-reads
 
 -- src/lib.rt:177:9
-byte-at-requires : tie.Need-byte-at-requires
-byte-at-requires c κs = search needs
+shape-at-requires : tie.Need-shape-at-requires
+shape-at-requires c κs = search needs
 
 -- src/lib.rt:178:9
 layout-of-requires : tie.Need-layout-of-requires
@@ -54,7 +54,7 @@ pub one-round-spec : {M : Type 1} → statement M
 one-round-spec =
     tie.close
     (tie.spec
-    byte-at-requires
+    shape-at-requires
     layout-of-requires
     note-calls-requires
     same-length

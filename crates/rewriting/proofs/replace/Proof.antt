@@ -3,8 +3,8 @@ use borrow.Author.Needs.{needs}
 use Rattle.rewriting.proofs.replace.Statement.{statement}
 use Rattle.rewriting.proofs.replace.Tie as tie
 
-byte-at-requires : tie.Need-byte-at-requires
-byte-at-requires c κs = search needs
+shape-at-requires : tie.Need-shape-at-requires
+shape-at-requires c κs = search needs
 
 add-fill-call : tie.Need-add-fill-call
 add-fill-call c = search needs
@@ -37,7 +37,7 @@ pub replace-spec : {M : Type 1} → statement M
 replace-spec =
     tie.close
     (tie.spec
-    byte-at-requires
+    shape-at-requires
     add-fill-call
     fill-call-requires
     end-at-requires

@@ -3,8 +3,8 @@ use borrow.Author.Needs.{needs}
 use Rattle.spelling.proofs.heads.shape_at.Statement.{statement}
 use Rattle.spelling.proofs.heads.shape_at.Tie as tie
 
-byte-at-requires : tie.Need-byte-at-requires
-byte-at-requires c κs = search needs
+shape-at-requires : tie.Need-shape-at-requires
+shape-at-requires c κs = search needs
 
 returns : tie.Need-returns
 returns c = search (needs, shape-kept)
@@ -13,4 +13,4 @@ returns-2 : tie.Need-returns-2
 returns-2 c = search (needs, shape-none)
 
 pub shape-at-spec : {M : Type 1} → statement M
-shape-at-spec = tie.close (tie.spec byte-at-requires returns returns-2)
+shape-at-spec = tie.close (tie.spec shape-at-requires returns returns-2)
