@@ -22,7 +22,7 @@ use Rattle.strings.proofs.Standing.{highest-there}
 use Rattle.strings.specs.Read.{far, highestCall, stringAt}
 use Rattle.strings.specs.declared.Filled.{Filled}
 use Rattle.symbols.proofs.Sizes.{byTwo}
-use Rattle.symbols.specs.Spell.{spell}
+use Rattle.symbols.specs.Spell.{maxParams, spell}
 use Rattle.symbols.specs.Symbol.{Symbol, begin, call, calls, code, end, name, number, par, size, var, wide}
 use Rattle.symbols.specs.Weight.{weight}
 use Rattle.theory.proofs.Lists.{never}
@@ -146,7 +146,7 @@ module _ (file refs : List ℕ) (v : Store) (declared : List ℕ) (n : ℕ) (x :
   as-read l = stands a 0 (spell σ (h .term)) len (h .spelt) l held-near
 
   -- so many parameters at most
-  arities-few : (k m : ℕ) → aritiesOf (templatesOf s) k ≡ some m → m ≤ 6
+  arities-few : (k m : ℕ) → aritiesOf (templatesOf s) k ≡ some m → m ≤ maxParams
   arities-few k m e =
       let l : k < length (s .definitions) = omega (arith, known-below (templatesOf s) k m e, length-templates [] (s .definitions)) in
       let q : paramsOf s k ≡ m = some-injective (sym (arity-known s (x .ready .sound) k l) ∙ e) in

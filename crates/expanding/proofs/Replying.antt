@@ -106,7 +106,7 @@ module _ (n : ℕ) (expr : List ℕ) (bytes : Bytes expr) where
   unfolding bytesCause
   bytes-few h = rw (le-ltb maxArity n h) refl
 
-  -- without these causes, an expression is spelt that keeps the limits, over at most three parameters
+  -- without these causes, an expression is spelt that keeps the limits, over at most eight parameters
   clear-spelt : bytesCause ≡ 0 → (e : Expression) × (expression .read expr ≡ some e) × (limits (overArity n) (overLimit e) ≡ 0)
   clear-spelt z = go (wholeOf expr) refl
     where
@@ -209,7 +209,7 @@ module _ (file refs names facts contexts orders heads declared : List ℕ) (c : 
               subst (λ (x : Outcome (List ℕ)). Reports x r out out′) (sym (no-cause fs s rs p words stands ended z)) (whole fs s rs p words stands ended z r out′ to);
         }
 
-  -- "a fourth parameter [is] 5"
+  -- a ninth parameter is 5
   pub reply-many : maxArity < n → (r : ℕ) → r ≡ limitCause expr
       → RepliesIn file refs names facts contexts orders heads declared c m n expr (Refused r (c .fields)) out out
   reply-many h r e = reply-bytes r (e ∙ sym (bytes-many n expr bytes h)) (λ z. limit-some expr (sym e ∙ z))

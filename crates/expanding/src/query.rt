@@ -53,7 +53,7 @@ fn expand_string(
     heads: &[u16],
     declared: &[u16],
     n: usize,
-    shapes: &[u8],
+    shapes: &[u32],
     a: &mut [u8],
     len: usize,
     work: &mut [u8],
@@ -98,7 +98,7 @@ fn expand_read(
     heads: &[u16],
     declared: &[u16],
     c: Counts,
-    shapes: &[u8],
+    shapes: &[u32],
     a: &mut [u8],
     work: &mut [u8],
     filled: &mut [u8],
@@ -151,7 +151,7 @@ fn expand_shaped(
     declared: &[u16],
     c: Counts,
     m: usize,
-    shapes: &[u8],
+    shapes: &[u32],
     a: &mut [u8],
     work: &mut [u8],
     filled: &mut [u8],
@@ -208,7 +208,7 @@ fn expand_with(
     declared: &[u16],
     c: Counts,
     m: usize,
-    shapes: &mut [u8],
+    shapes: &mut [u32],
     a: &mut [u8],
     work: &mut [u8],
     filled: &mut [u8],
@@ -273,7 +273,7 @@ fn expand_in(
     requires { ⌜ (m ≤ maxModules) × (length (now file) ≤ fileBytes) × (c .definitions ≤ maxDefinitions) ⌝ }
     ensures { λ r. ⌜ RepliesIn (now (file .entry)) (now (refs .entry)) (now (names .entry)) (now (facts .entry)) (now (contexts .entry)) (now (orders .entry)) (now (heads .entry)) (now (declared .entry)) c m params (now (expr .entry)) r (now (out .entry)) (now (out .exit)) ⌝ }
 {
-    let mut shapes = [0u8; Limits::DEFINITIONS];
+    let mut shapes = [0u32; Limits::DEFINITIONS];
     let mut a = [0u8; WORK_BYTES];
     let mut work = [0u8; WORK_BYTES];
     let mut filled = [0u8; WORK_BYTES];

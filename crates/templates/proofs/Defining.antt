@@ -20,8 +20,9 @@ use Rattle.spelling.specs.Strings.{ShapesFit, shapesOf}
 use Rattle.templates.proofs.Storing.{set-fit}
 use Rattle.templates.specs.Shaped.{Begun, Cleared, DefinitionStored, DefinitionsShaped, OwnShape, Prepared, StandInsStored, shapeCount}
 use Rattle.templates.specs.Told.{Told}
+use Rattle.symbols.specs.Spell.{shapeLimit}
 
--- bytes copied, the first i of them
+-- shapes copied, the first i of them
 pub record Beginning (shapes along : List ℕ) (i : ℕ) : Type 0 where
   pub long : length along ≡ shapeCount
   pub same : (j : ℕ) → j < i → getD along j 0 ≡ getD shapes j 0
@@ -52,7 +53,7 @@ beginning-end shapes along i s l e = record { long = s .long; same = same }
         go false z =
             List·getD-eq-default along 0 (omega (arith, s .long, ltb-false j i z)) ∙ sym (List·getD-eq-default shapes 0 (omega (arith, ltb-false j i z)))
 
--- bytes made 0, the first i of them
+-- shapes made 0, the first i of them
 pub record Clearing (shapes : List ℕ) (i : ℕ) : Type 0 where
   pub long : length shapes ≡ maxDefinitions
   pub none : (j : ℕ) → j < i → getD shapes j 0 ≡ 0
@@ -98,7 +99,7 @@ prepared file refs names facts contexts orders heads declared n d shapes k numbe
     }
   where
     begun : ShapesFit shapes → ShapesFit before
-    begun f i = subst (λ (y : ℕ). y < 128) (sym (b .same i)) (f i)
+    begun f i = subst (λ (y : ℕ). y < shapeLimit) (sym (b .same i)) (f i)
 
     chain : (x : Told file refs (store names facts contexts orders heads) declared n) → d < x .counts .definitions
         → Entered (x .state) (x .rows) (x .ready .worlds .runs) facts d k numbers currents outers

@@ -10,7 +10,7 @@ use native.Mathlib.Omega.{arith}
 use Prim.Native.Nat.{_+_, _-_, _<_, _≤_, ℕ}
 use Rattle.limits.specs.Limits.{maxArity, maxDeclarations}
 use Rattle.theory.specs.Term.{Kind, Term, constant, kindArity, variable}
-use Rattle.symbols.specs.Spell.{shapeOf, spell}
+use Rattle.symbols.specs.Spell.{shapeLimit, shapeOf, spell}
 use Rattle.texts.specs.Text.{noDeclaration}
 use Rattle.context.specs.Store.{Store, kindAt, store}
 use Rattle.worlds.specs.Rows.{worldOf}
@@ -127,7 +127,7 @@ module _ (file refs names facts contexts orders heads declared : List ℕ) (n : 
     -- that of an earlier declaration
     pub next-alike : (firsts : List ℕ) (e f r : ℕ) → FirstsNoted names facts declared firsts → firstStandIn ≤ m → e ≡ entryOf m → f ≡ getD firsts e 0 → f < e
         → r ≡ getD along (m - e + f) 0 → NextShape file refs (store names facts contexts orders heads) declared n m numbers currents outers along r
-    next-alike firsts e f r noted high qe qf before q = record { small = λ fit. subst (λ (y : ℕ). y < 128) (sym q) (fit (m - e + f)); right = right }
+    next-alike firsts e f r noted high qe qf before q = record { small = λ fit. subst (λ (y : ℕ). y < shapeLimit) (sym q) (fit (m - e + f)); right = right }
       where
         h : FirstAlike names facts declared e f
         h = subst (FirstAlike names facts declared e) (sym qf) (noted .each e (omega arith))

@@ -8,16 +8,16 @@ use lib.Dec.{ltb}
 use lib.ListN.{List·getD-eq-default, getD, length, length-set, set}
 use lib.Seq.{getD-set-other, getD-set-same}
 use native.Mathlib.Omega.{arith}
-use Prim.Native.Nat.{_%_, _*_, _+_, _-_, _<_, _≤_, suc, ℕ}
+use Prim.Native.Nat.{_*_, _+_, _-_, _<_, _≤_, suc, ℕ}
 use Rattle.limits.specs.Limits.{fileBytes, maxDeclarations, maxDefinitions}
-use Rattle.symbols.specs.Spell.{shapeOf, spell}
+use Rattle.symbols.specs.Spell.{maxParams, shapeLimit, shapeOf, spell}
 use Rattle.symbols.specs.Symbol.{Symbol}
 use Rattle.theory.specs.Term.{Arities, Term, WellFormed}
 use Rattle.context.specs.Store.{Store, store}
 use Rattle.worlds.proofs.Uses.{uses-more}
 use Rattle.worlds.specs.Rows.{worldOf}
 use Rattle.strings.proofs.Reading.{stands}
-use Rattle.strings.proofs.Standing.{shape-read, shape-small}
+use Rattle.strings.proofs.Standing.{shape-small}
 use Rattle.strings.specs.Read.{far, stringAt}
 use Rattle.chains.proofs.Knowing.{NamedIn}
 use Rattle.unfolding.proofs.AllRight.{StandInsShaped}
@@ -30,19 +30,19 @@ use Rattle.unfolding.specs.StandIn.{entryOf, levelOf, outermost}
 use Rattle.spelling.specs.Strings.{ShapesFit, shapesOf}
 use Rattle.callees.specs.Results.{OwnString, StandInString, Strung}
 use Rattle.templates.proofs.Numbers.{along-named, along-on, own-near, own-text, standin-below, standin-near, standin-text}
-use Rattle.templates.specs.Shaped.{Along, ChainHeld, Kept, NextShape, OwnShape, ShapedBelow, StandInShape, StandInsStored, firstStandIn, shapeCount}
+use Rattle.templates.specs.Shaped.{Along, ChainHeld, Kept, NextShape, OwnShape, ShapedBelow, StandInShape, StandInsStored, firstStandIn, shapeCount, textBytes}
 use Rattle.templates.specs.Told.{Told}
 
 -- the shape of a string that stands in the memory
 pub string-shape : (ar : Arities) (p : ℕ) (t : Term) (shapes : List ℕ) (end : ℕ) (out : List ℕ) (room : ℕ) (fits : Bool) (len h r : ℕ)
-    → Strung t shapes end out room fits len → end ≤ fileBytes → 2 * fileBytes ≤ room → length out ≡ room → far (spell (shapesOf shapes) t) ≡ false → WellFormed ar p 0 t → p ≤ 6
-    → h ≡ shapeOf (stringAt out 0 len) % 256 → Kept h r → r ≡ shapeOf (spell (shapesOf shapes) t)
+    → Strung t shapes end out room fits len → end ≤ fileBytes → textBytes ≤ room → length out ≡ room → far (spell (shapesOf shapes) t) ≡ false → WellFormed ar p 0 t → p ≤ maxParams
+    → h ≡ shapeOf (stringAt out 0 len) → Kept h r → r ≡ shapeOf (spell (shapesOf shapes) t)
 string-shape ar p t shapes end out room fits len h r s short big long near formed few e kept =
     let gs : List Symbol = spell (shapesOf shapes) t in
     let y = s .spells .spelt (s .whole (omega arith) (omega arith)) in
-    let small : shapeOf gs < 70 = shape-small gs (λ i q. unseen (shapesOf shapes) ar p i (omega arith) t 0 formed) in
+    let small : shapeOf gs < shapeLimit = shape-small gs (λ i q. unseen (shapesOf shapes) ar p i (omega arith) t 0 formed) in
     let same : stringAt out 0 len ≡ gs = stands out 0 gs len (y .0) (omega (arith, y .1)) near in
-    let z : h ≡ shapeOf gs = shape-read gs h small (e ∙ ap (λ (hs : List Symbol). shapeOf hs % 256) same) in
+    let z : h ≡ shapeOf gs = e ∙ ap shapeOf same in
     kept .same (omega arith) ∙ z
 
 module _ (file refs names facts contexts orders heads declared : List ℕ) (n : ℕ) (numbers currents outers : List ℕ) where
@@ -50,8 +50,8 @@ module _ (file refs names facts contexts orders heads declared : List ℕ) (n : 
   v = store names facts contexts orders heads
 
   pub standin-shaped : (m : ℕ) (along out : List ℕ) (room : ℕ) (fits : Bool) (len l e h r : ℕ) → m < shapeCount → l ≡ levelOf m - 1 → e ≡ entryOf m
-      → StandInString file refs names facts contexts heads declared numbers currents outers along l e out room fits len → 2 * fileBytes ≤ room → length out ≡ room
-      → h ≡ shapeOf (stringAt out 0 len) % 256 → Kept h r → StandInShape file refs (store names facts contexts orders heads) declared n m numbers currents outers along r
+      → StandInString file refs names facts contexts heads declared numbers currents outers along l e out room fits len → textBytes ≤ room → length out ≡ room
+      → h ≡ shapeOf (stringAt out 0 len) → Kept h r → StandInShape file refs (store names facts contexts orders heads) declared n m numbers currents outers along r
   standin-shaped m along out room fits len l e h r near ql qe s big long q kept = record { small = kept .small; right = right }
     where
       right : (x : Told file refs v declared n) (d k : ℕ) → d < x .counts .definitions → ChainHeld file refs v declared n d k numbers currents outers x → ShapesFit along
@@ -69,8 +69,8 @@ module _ (file refs names facts contexts orders heads declared : List ℕ) (n : 
           (standin-near file refs v declared n d k numbers currents outers x there chain m a (shapesOf along) near) (u .formed) (omega (arith, u .few)) q kept
 
   pub own-shaped : (k : ℕ) (along out : List ℕ) (room : ℕ) (fits : Bool) (len h r : ℕ) → k ≤ maxLinks
-      → OwnString file refs names facts declared numbers currents outers along k out room fits len → 2 * fileBytes ≤ room → length out ≡ room
-      → h ≡ shapeOf (stringAt out 0 len) % 256 → Kept h r → OwnShape file refs (store names facts contexts orders heads) declared n k numbers currents outers along r
+      → OwnString file refs names facts declared numbers currents outers along k out room fits len → textBytes ≤ room → length out ≡ room
+      → h ≡ shapeOf (stringAt out 0 len) → Kept h r → OwnShape file refs (store names facts contexts orders heads) declared n k numbers currents outers along r
   own-shaped k along out room fits len h r few s big long q kept = record { small = kept .small; right = right }
     where
       right : (x : Told file refs v declared n) (d : ℕ) → d < x .counts .definitions → ChainHeld file refs v declared n d k numbers currents outers x → ShapesFit along
@@ -81,23 +81,23 @@ module _ (file refs names facts contexts orders heads declared : List ℕ) (n : 
           (s .string contexts orders heads n d (x .counts) (x .state) (x .rows) (x .decls) (x .end) (x .ready) there (x .room) chain fit) (x .short) big long
           (own-near file refs v declared n d k numbers currents outers x there chain (shapesOf along) few) (u .formed) (omega (arith, u .few)) q kept
 
-pub set-fit : (along : List ℕ) (m r : ℕ) → r < 128 → ShapesFit along → ShapesFit (set along m r)
+pub set-fit : (along : List ℕ) (m r : ℕ) → r < shapeLimit → ShapesFit along → ShapesFit (set along m r)
 set-fit along m r small f i = go (ltb i m) refl (ltb m i) refl
   where
-    other : i ≢ m → getD (set along m r) i 0 < 128
-    other q = subst (λ (y : ℕ). y < 128) (sym (getD-set-other along m i r 0 q)) (f i)
+    other : i ≢ m → getD (set along m r) i 0 < shapeLimit
+    other q = subst (λ (y : ℕ). y < shapeLimit) (sym (getD-set-other along m i r 0 q)) (f i)
 
-    same : i ≡ m → getD (set along m r) i 0 < 128
+    same : i ≡ m → getD (set along m r) i 0 < shapeLimit
     same q = inside (ltb i (length along)) refl
       where
-        inside : (b : Bool) → ltb i (length along) ≡ b → getD (set along m r) i 0 < 128
+        inside : (b : Bool) → ltb i (length along) ≡ b → getD (set along m r) i 0 < shapeLimit
         inside true e =
-            subst (λ (y : ℕ). getD (set along y r) i 0 < 128) q (subst (λ (y : ℕ). y < 128) (sym (getD-set-same along i r 0 (ltb-true i (length along) e))) small)
+            subst (λ (y : ℕ). getD (set along y r) i 0 < shapeLimit) q (subst (λ (y : ℕ). y < shapeLimit) (sym (getD-set-same along i r 0 (ltb-true i (length along) e))) small)
         inside false e =
             let z : getD (set along m r) i 0 ≡ 0 = List·getD-eq-default (set along m r) 0 (omega (arith, length-set along m r, ltb-false i (length along) e)) in
             omega (arith, z)
 
-    go : (a : Bool) → ltb i m ≡ a → (b : Bool) → ltb m i ≡ b → getD (set along m r) i 0 < 128
+    go : (a : Bool) → ltb i m ≡ a → (b : Bool) → ltb m i ≡ b → getD (set along m r) i 0 < shapeLimit
     go true e b q = other (λ (z : i ≡ m). omega (arith, ltb-true i m e))
     go false e true q = other (λ (z : i ≡ m). omega (arith, ltb-true m i q))
     go false e false q = same (omega (arith, ltb-false i m e, ltb-false m i q))

@@ -1,14 +1,14 @@
 -- The stand-ins taken out of a definition's text, the highest number first.
 use mathlib.Core.Bool.{Bool, _&&_, false, true}
 use mathlib.Core.List.{List}
-use mathlib.Core.Logic.{_⊎_}
+use mathlib.Core.Logic.{_⊎_, inl}
 use mathlib.Core.Path.{_∙_, _≡_, ap, refl, subst, sym}
-use borrow.Author.Tests.{leb-false, leb-true, lt-ltb, ltb-true, ne-eqb}
+use borrow.Author.Tests.{le-leb, leb-false, leb-true, lt-leb, lt-ltb, ltb-true, ne-eqb}
 use lib.Dec.{eqb, leb, ltb}
 use lib.ListN.{getD, length}
 use native.Mathlib.Omega.{arith}
-use Prim.Native.Nat.{_*_, _+_, _-_, _<_, _≤_, suc, ℕ}
-use Rattle.limits.specs.Limits.{fileBytes, maxDefinitions}
+use Prim.Native.Nat.{_+_, _-_, _<_, _≤_, suc, ℕ}
+use Rattle.limits.specs.Limits.{maxDefinitions}
 use Rattle.symbols.specs.Spell.{spell}
 use Rattle.symbols.specs.Symbol.{Spelt, Symbol, calls, size, wide}
 use Rattle.theory.proofs.Lists.{never}
@@ -32,7 +32,7 @@ use Rattle.rewriting.specs.Rewritten.{Replaced, Rewritten, Task, Templated}
 use Rattle.templates.proofs.Highest.{highest-low, highest-none, highest-there}
 use Rattle.templates.proofs.Numbers.{low}
 use Rattle.templates.specs.Highest.{highestNumber}
-use Rattle.templates.specs.Shaped.{firstStandIn, shapeCount}
+use Rattle.templates.specs.Shaped.{firstStandIn, shapeCount, textBytes}
 use Rattle.templates.specs.Taking.{AllTaken, Known, Mid, MidAt, MidLong, OwnTaken, StepTaken, TakenOut, workBytes}
 use Rattle.templates.specs.Told.{Told}
 use Rattle.templates.specs.declared.making.Left.{Left}
@@ -53,7 +53,7 @@ module _ (file refs names facts contexts orders heads declared : List ℕ) (n k 
 
   module _ (m l e : ℕ) (text : List ℕ) (room : ℕ) (fits : Bool) (tlen : ℕ) (before : List ℕ) (len : ℕ) (after : List ℕ) (r : Filled)
       (high : firstStandIn ≤ m) (ql : l ≡ levelOf m - 1) (qe : e ≡ entryOf m)
-      (s : StandInString file refs names facts contexts heads declared numbers currents outers along l e text room fits tlen) (big : 2 * fileBytes ≤ room) (fills : length text ≡ room)
+      (s : StandInString file refs names facts contexts heads declared numbers currents outers along l e text room fits tlen) (big : textBytes ≤ room) (fills : length text ≡ room)
       (w : Rewritten before len m text tlen along after r) where
     module _ (x : Told file refs v declared n) (d : ℕ) (known : Known file refs v declared n d k numbers currents outers along x)
         (at : MidAt file refs v declared n d k numbers currents outers along x before len) (top : highestNumber (spell (shapesOf along) (at .term)) ≡ suc m) where
@@ -281,42 +281,53 @@ module _ (file refs names facts contexts orders heads declared : List ℕ) (n k 
     own-strung : Strung (ownTerm file refs facts (x .decls) k numbers currents outers) along (x .end) work room fits len
     own-strung = s .string contexts orders heads n d (x .counts) (x .state) (x .rows) (x .decls) (x .end) (x .ready) (known .there) (x .room) (known .chain) (known .fit)
 
-    own-spelt : Spelt work 0 (spell (shapesOf along) (ownTerm file refs facts (x .decls) k numbers currents outers)) len × (len ≤ room)
-    own-spelt = own-strung .spells .spelt (own-strung .whole (omega (arith, x .short)) (omega arith))
-
-    own-mid : MidAt file refs arrays declared n d k numbers currents outers along x work len
+    own-mid : Mid file refs arrays declared n d k numbers currents outers along x (ownTerm file refs facts (x .decls) k numbers currents outers)
     own-mid =
         record {
-          term = ownTerm file refs facts (x .decls) k numbers currents outers;
-          mid =
-              record {
-                taken =
-                    taken-start file refs arrays declared n d (x .counts) (x .state) (x .rows) (x .decls) (x .end) (x .ready) (known .there) (x .room) k numbers currents outers (known .chain)
-                    (shapesOf along) (known .below) (known .shaped);
-                near =
-                    own-near file refs arrays declared n d (x .counts) (x .state) (x .rows) (x .decls) (x .end) (x .ready) (known .there) (x .room) k numbers currents outers (known .chain)
-                    (shapesOf along);
-              };
-          spelt = own-spelt .0;
+          taken =
+              taken-start file refs arrays declared n d (x .counts) (x .state) (x .rows) (x .decls) (x .end) (x .ready) (known .there) (x .room) k numbers currents outers (known .chain)
+              (shapesOf along) (known .below) (known .shaped);
+          near =
+              own-near file refs arrays declared n d (x .counts) (x .state) (x .rows) (x .decls) (x .end) (x .ready) (known .there) (x .room) k numbers currents outers (known .chain)
+              (shapesOf along);
         }
 
-  pub own-taken : (after : List ℕ) (r : Filled) → AllTaken file refs (store names facts contexts orders heads) declared n k numbers currents outers along work len after r
+    own-mid-at : len ≤ room → MidAt file refs arrays declared n d k numbers currents outers along x work len
+    own-mid-at l =
+        record {
+          term = ownTerm file refs facts (x .decls) k numbers currents outers;
+          mid = own-mid;
+          spelt = own-strung .spells .spelt (s .told ∙ le-leb len room l) .0;
+        }
+
+    own-mid-long : room < len → MidLong file refs arrays declared n d k numbers currents outers along x room
+    own-mid-long l =
+        record {
+          term = ownTerm file refs facts (x .decls) k numbers currents outers;
+          mid = own-mid;
+          long = inl (own-strung .spells .short (s .told ∙ lt-leb len room l));
+        }
+
+  pub own-taken : (after : List ℕ) (r : Filled) → len ≤ length work
+      → AllTaken file refs (store names facts contexts orders heads) declared n k numbers currents outers along work len after r
       → OwnTaken file refs (store names facts contexts orders heads) declared n k numbers currents outers along after r
-  own-taken after r a =
+  own-taken after r l a =
       record {
         long = a .long ∙ fills ∙ full;
         within = omega (arith, a .within);
         on = λ x d known.
-            let y = a .on x d known (own-mid x d known) in
+            let y = a .on x d known (own-mid-at x d known (omega arith)) in
             (y .0, λ f. subst (MidLong file refs arrays declared n d k numbers currents outers along x) (fills ∙ full) (y .1 f));
       }
 
-  -- there is always room for it
   pub own-taken-no : (r : Filled) → length work < len → r .fits ≡ false → r .len ≡ 0
       → OwnTaken file refs (store names facts contexts orders heads) declared n k numbers currents outers along work r
   own-taken-no r over f e =
       record {
         long = fills ∙ full;
         within = omega arith;
-        on = λ x d known. absurd (omega (arith, own-spelt x d known .1));
+        on = λ x d known. (
+          λ g. never (sym g ∙ f),
+          λ g. subst (MidLong file refs arrays declared n d k numbers currents outers along x) full (own-mid-long x d known (omega arith)),
+        );
       }

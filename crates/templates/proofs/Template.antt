@@ -10,7 +10,7 @@ use lib.ListN.{getD}
 use native.Mathlib.Omega.{arith}
 use Prim.Native.Nat.{_<_, _≤_, ℕ}
 use Rattle.limits.specs.Limits.{maxDefinitions}
-use Rattle.symbols.specs.Spell.{spell}
+use Rattle.symbols.specs.Spell.{maxParams, spell}
 use Rattle.symbols.specs.Symbol.{Spelt, Symbol, calls, size, wide}
 use Rattle.theory.specs.Expand.{aritiesOf}
 use Rattle.theory.specs.Lists.{any}
@@ -131,6 +131,6 @@ module _ (file refs : List ℕ) (v : Store) (declared : List ℕ) (n d : ℕ) (s
   pub template-made : TemplateMade file refs v declared n d shapes work r
   template-made = record { long = o .long; within = o .within; made = made }
 
--- no definition has more than three arguments
-pub few-arity : (file refs : List ℕ) (v : Store) (declared : List ℕ) (n : ℕ) (x : Told file refs v declared n) (h m : ℕ) → aritiesOf (templatesOf (x .state)) h ≡ some m → m ≤ 6
+-- no definition has more arguments than a shape has bits for
+pub few-arity : (file refs : List ℕ) (v : Store) (declared : List ℕ) (n : ℕ) (x : Told file refs v declared n) (h m : ℕ) → aritiesOf (templatesOf (x .state)) h ≡ some m → m ≤ maxParams
 few-arity file refs v declared n x h m e = omega (arith, arity-few (x .state) (x .ready .sound) (x .ready .params) h m e)

@@ -1,10 +1,10 @@
 -- Shapes worked out: of the stand-ins along one chain, and of the definitions in order.
 use mathlib.Core.List.{List}
 use mathlib.Core.Path.{_≡_}
-use Prim.Native.Nat.{ℕ, _+_, _-_, _≤_, _<_}
+use Prim.Native.Nat.{ℕ, _+_, _-_, _*_, _/_, _≤_, _<_}
 use lib.ListN.{getD, length, set}
-use Rattle.limits.specs.Limits.{maxDeclarations, maxDefinitions}
-use Rattle.symbols.specs.Spell.{shapeOf, spell}
+use Rattle.limits.specs.Limits.{fileBytes, maxDeclarations, maxDefinitions}
+use Rattle.symbols.specs.Spell.{shapeLimit, shapeOf, spell}
 use Rattle.context.specs.Store.{Store}
 use Rattle.worlds.specs.Rows.{worldOf}
 use Rattle.chains.proofs.Knowing.{NamedIn}
@@ -12,12 +12,16 @@ use Rattle.unfolding.specs.CalleeTerm.{Entered, maxLinks, ownTerm, senseOf, sta
 use Rattle.unfolding.specs.Sense.{Right}
 use Rattle.unfolding.specs.StandIn.{entryOf, levelOf, outermost}
 use Rattle.unfolding.proofs.AllRight.{RightBelow, StandInsShaped}
-use Rattle.spelling.specs.Strings.{ShapesFit, shapesOf}
+use Rattle.spelling.specs.Strings.{ShapesFit, growth, shapesOf}
 use Rattle.templates.specs.Told.{Told}
 
 -- the numbers that a chain calls: the definitions, and so many levels of stand-ins
 abbrev pub shapeCount : ℕ
 shapeCount = 1280
+
+-- the longest string of a text of the file
+abbrev pub textBytes : ℕ
+textBytes = growth * fileBytes / 2
 
 -- the number of the first stand-in
 abbrev pub firstStandIn : ℕ
@@ -34,21 +38,21 @@ pub record Along (file refs : List ℕ) (v : Store) (declared : List ℕ) (n d k
   pub level : levelOf m ≤ k
   pub named : NamedIn (x .decls) (outermost (levelOf m) (worldOf (x .rows) d)) (entryOf m)
 
--- a shape that a byte below 128 holds; any other is none
+-- a shape; any other number is none
 pub record Kept (h r : ℕ) : Type 0 where
-  pub small : r < 128
-  pub same : h < 128 → r ≡ h
+  pub small : r < shapeLimit
+  pub same : h < shapeLimit → r ≡ h
 
 -- r is the shape of stand-in m along the chain that the arrays hold,
 pub record StandInShape (file refs : List ℕ) (v : Store) (declared : List ℕ) (n m : ℕ) (numbers currents outers along : List ℕ) (r : ℕ) : Type 0 where
-  pub small : r < 128
+  pub small : r < shapeLimit
   pub right : (x : Told file refs v declared n) (d k : ℕ) → d < x .counts .definitions → ChainHeld file refs v declared n d k numbers currents outers x → ShapesFit along
       → Along file refs v declared n d k m x
       → r ≡ shapeOf (spell (shapesOf along) (standInTerm file refs v (x .decls) numbers currents outers (levelOf m - 1) (entryOf m)))
 
 -- or of the definition whose chain it is
 pub record OwnShape (file refs : List ℕ) (v : Store) (declared : List ℕ) (n k : ℕ) (numbers currents outers along : List ℕ) (r : ℕ) : Type 0 where
-  pub small : r < 128
+  pub small : r < shapeLimit
   pub right : (x : Told file refs v declared n) (d : ℕ) → d < x .counts .definitions → ChainHeld file refs v declared n d k numbers currents outers x → ShapesFit along
       → r ≡ shapeOf (spell (shapesOf along) (ownTerm file refs (v .facts) (x .decls) k numbers currents outers))
 
@@ -60,7 +64,7 @@ ShapedBelow file refs v declared n d k m numbers currents outers along x =
 
 -- Where they have, r is the shape of stand-in m.
 pub record NextShape (file refs : List ℕ) (v : Store) (declared : List ℕ) (n m : ℕ) (numbers currents outers along : List ℕ) (r : ℕ) : Type 0 where
-  pub small : ShapesFit along → r < 128
+  pub small : ShapesFit along → r < shapeLimit
   pub right : (x : Told file refs v declared n) (d k : ℕ) → d < x .counts .definitions → ChainHeld file refs v declared n d k numbers currents outers x → ShapesFit along
       → ShapedBelow file refs v declared n d k m numbers currents outers along x → Along file refs v declared n d k m x
       → r ≡ shapeOf (spell (shapesOf along) (standInTerm file refs v (x .decls) numbers currents outers (levelOf m - 1) (entryOf m)))
@@ -96,7 +100,7 @@ pub record Prepared (file refs : List ℕ) (v : Store) (declared : List ℕ) (n 
 -- The shape of definition d has been stored.
 pub record DefinitionStored (file refs : List ℕ) (v : Store) (declared : List ℕ) (n d : ℕ) (shapes shapes′ : List ℕ) : Type 0 where
   pub shape : ℕ
-  pub small : shape < 128
+  pub small : shape < shapeLimit
   pub stored : shapes′ ≡ set shapes d shape
   pub right : (x : Told file refs v declared n) → d < x .counts .definitions → ShapesFit shapes → RightBelow (x .state) (shapesOf shapes) d
       → Right (senseOf (x .state) (shapesOf shapes′)) d

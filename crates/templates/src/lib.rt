@@ -15,6 +15,6 @@ impl Room {
     // The numbers that its strings call: the definitions, and a stand-in for each declaration at each level.
     pub const SHAPES: usize = Limits::DEFINITIONS + Room::LEVELS * Limits::DECLARATIONS;
 
-    // One of its strings.
-    pub const TEXT: usize = 2 * Limits::FILE_BYTES;
+    // One of its strings: a name of four bytes may become a call and the instances' parameters, of two bytes each.
+    pub const TEXT: usize = (1 + Limits::ARITY) * Limits::FILE_BYTES / 2;
 }

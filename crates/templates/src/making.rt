@@ -12,17 +12,17 @@ use strings::Sign;
 use strings::symbol_at;
 use strings::width;
 ghost use mathlib.Core.Path.{_≡_};
-ghost use Prim.Native.Nat.{_*_, _≤_, _<_, max, min};
+ghost use Prim.Native.Nat.{_≤_, _<_, max, min};
 ghost use lib.Dec.{ltb};
 ghost use lib.ListN.{length};
-ghost use Rattle.limits.specs.Limits.{fileBytes, maxDefinitions};
+ghost use Rattle.limits.specs.Limits.{maxDefinitions};
 ghost use Rattle.context.specs.Store.{store};
 ghost use Rattle.callees.specs.Walk.{Sized};
 ghost use Rattle.strings.specs.Read.{stringAt, symbolOf};
 ghost use Rattle.unfolding.specs.CalleeTerm.{maxLinks};
 ghost use Rattle.templates.specs.Highest.{highestNumber, numberCalled};
 ghost use Rattle.templates.specs.Made.{TemplateMade};
-ghost use Rattle.templates.specs.Shaped.{firstStandIn, shapeCount};
+ghost use Rattle.templates.specs.Shaped.{firstStandIn, shapeCount, textBytes};
 ghost use Rattle.templates.specs.Taking.{AllTaken, OwnTaken, StepTaken, TakenOut, workBytes};
 
 fn greater(a: usize, b: usize) -> usize
@@ -88,7 +88,7 @@ fn take_out(
     numbers: &[u16],
     currents: &[u16],
     outers: &[u16],
-    along: &[u8],
+    along: &[u32],
     k: usize,
     m: usize,
     text: &mut [u8],
@@ -96,7 +96,7 @@ fn take_out(
     work: &mut [u8],
     len: usize,
 ) -> Filled
-    requires { ⌜ Sized (now numbers) (now currents) (now outers) × (length (now text) ≡ 2 * fileBytes) × (length (now filled) ≡ workBytes) × (length (now work) ≡ workBytes) × (len ≤ workBytes) × (firstStandIn ≤ m) × (m < shapeCount) ⌝ }
+    requires { ⌜ Sized (now numbers) (now currents) (now outers) × (length (now text) ≡ textBytes) × (length (now filled) ≡ workBytes) × (length (now work) ≡ workBytes) × (len ≤ workBytes) × (firstStandIn ≤ m) × (m < shapeCount) ⌝ }
     ensures { λ r. ⌜ TakenOut (now (file .entry)) (now (refs .entry)) (store (now (names .entry)) (now (facts .entry)) (now (contexts .entry)) (now (orders .entry)) (now (heads .entry))) (now (declared .entry)) n k m (now (numbers .entry)) (now (currents .entry)) (now (outers .entry)) (now (along .entry)) (now (work .entry)) len (now (work .exit)) r ⌝ }
 {
     let l = (m - Limits::DEFINITIONS) / Limits::DECLARATIONS - 1;
@@ -143,7 +143,7 @@ fn take_step(
     numbers: &[u16],
     currents: &[u16],
     outers: &[u16],
-    along: &[u8],
+    along: &[u32],
     k: usize,
     h: usize,
     text: &mut [u8],
@@ -151,7 +151,7 @@ fn take_step(
     work: &mut [u8],
     len: usize,
 ) -> Left
-    requires { ⌜ Sized (now numbers) (now currents) (now outers) × (length (now text) ≡ 2 * fileBytes) × (length (now filled) ≡ workBytes) × (length (now work) ≡ workBytes) × (len ≤ workBytes) × (firstStandIn < h) × (h ≤ shapeCount) ⌝ }
+    requires { ⌜ Sized (now numbers) (now currents) (now outers) × (length (now text) ≡ textBytes) × (length (now filled) ≡ workBytes) × (length (now work) ≡ workBytes) × (len ≤ workBytes) × (firstStandIn < h) × (h ≤ shapeCount) ⌝ }
     ensures { λ r. ⌜ StepTaken (now (file .entry)) (now (refs .entry)) (store (now (names .entry)) (now (facts .entry)) (now (contexts .entry)) (now (orders .entry)) (now (heads .entry))) (now (declared .entry)) n k h (now (numbers .entry)) (now (currents .entry)) (now (outers .entry)) (now (along .entry)) (now (work .entry)) len (now (work .exit)) r ⌝ }
 {
     let f = take_out(
@@ -198,14 +198,14 @@ fn take_all(
     numbers: &[u16],
     currents: &[u16],
     outers: &[u16],
-    along: &[u8],
+    along: &[u32],
     k: usize,
     text: &mut [u8],
     filled: &mut [u8],
     work: &mut [u8],
     len: usize,
 ) -> Filled
-    requires { ⌜ Sized (now numbers) (now currents) (now outers) × (length (now text) ≡ 2 * fileBytes) × (length (now filled) ≡ workBytes) × (length (now work) ≡ workBytes) × (len ≤ workBytes) ⌝ }
+    requires { ⌜ Sized (now numbers) (now currents) (now outers) × (length (now text) ≡ textBytes) × (length (now filled) ≡ workBytes) × (length (now work) ≡ workBytes) × (len ≤ workBytes) ⌝ }
     ensures { λ r. ⌜ AllTaken (now (file .entry)) (now (refs .entry)) (store (now (names .entry)) (now (facts .entry)) (now (contexts .entry)) (now (orders .entry)) (now (heads .entry))) (now (declared .entry)) n k (now (numbers .entry)) (now (currents .entry)) (now (outers .entry)) (now (along .entry)) (now (work .entry)) len (now (work .exit)) r ⌝ }
 {
     let mut q = len;
@@ -259,13 +259,13 @@ fn own_template(
     numbers: &[u16],
     currents: &[u16],
     outers: &[u16],
-    along: &[u8],
+    along: &[u32],
     k: usize,
     text: &mut [u8],
     filled: &mut [u8],
     work: &mut [u8],
 ) -> Filled
-    requires { ⌜ Sized (now numbers) (now currents) (now outers) × (length (now text) ≡ 2 * fileBytes) × (length (now filled) ≡ workBytes) × (length (now work) ≡ workBytes) × (k ≤ maxLinks) ⌝ }
+    requires { ⌜ Sized (now numbers) (now currents) (now outers) × (length (now text) ≡ textBytes) × (length (now filled) ≡ workBytes) × (length (now work) ≡ workBytes) × (k ≤ maxLinks) ⌝ }
     ensures { λ r. ⌜ OwnTaken (now (file .entry)) (now (refs .entry)) (store (now (names .entry)) (now (facts .entry)) (now (contexts .entry)) (now (orders .entry)) (now (heads .entry))) (now (declared .entry)) n k (now (numbers .entry)) (now (currents .entry)) (now (outers .entry)) (now (along .entry)) (now (work .exit)) r ⌝ }
 {
     let t = own_string(
@@ -320,17 +320,17 @@ fn make_template(
     heads: &[u16],
     declared: &[u16],
     n: usize,
-    shapes: &[u8],
+    shapes: &[u32],
     d: usize,
     numbers: &mut [u16],
     currents: &mut [u16],
     outers: &mut [u16],
     text: &mut [u8],
-    along: &mut [u8],
+    along: &mut [u32],
     filled: &mut [u8],
     work: &mut [u8],
 ) -> Filled
-    requires { ⌜ Sized (now numbers) (now currents) (now outers) × (length (now text) ≡ 2 * fileBytes) × (length (now along) ≡ shapeCount) × (length (now shapes) ≡ maxDefinitions) × (d < maxDefinitions) × (length (now filled) ≡ workBytes) × (length (now work) ≡ workBytes) ⌝ }
+    requires { ⌜ Sized (now numbers) (now currents) (now outers) × (length (now text) ≡ textBytes) × (length (now along) ≡ shapeCount) × (length (now shapes) ≡ maxDefinitions) × (d < maxDefinitions) × (length (now filled) ≡ workBytes) × (length (now work) ≡ workBytes) ⌝ }
     ensures { λ r. ⌜ TemplateMade (now (file .entry)) (now (refs .entry)) (store (now (names .entry)) (now (facts .entry)) (now (contexts .entry)) (now (orders .entry)) (now (heads .entry))) (now (declared .entry)) n d (now (shapes .entry)) (now (work .exit)) r ⌝ }
 {
     let k = prepare(
@@ -383,7 +383,7 @@ pub fn template(
     heads: &[u16],
     declared: &[u16],
     n: usize,
-    shapes: &[u8],
+    shapes: &[u32],
     d: usize,
     work: &mut [u8],
     filled: &mut [u8],
@@ -395,7 +395,7 @@ pub fn template(
     let mut currents = [0u16; Room::LEVELS];
     let mut outers = [0u16; Room::LEVELS];
     let mut text = [0u8; Room::TEXT];
-    let mut along = [0u8; Room::SHAPES];
+    let mut along = [0u32; Room::SHAPES];
     make_template(
         file,
         refs,

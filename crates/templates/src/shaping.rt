@@ -6,31 +6,33 @@ use callees::strings::own_string;
 use callees::strings::standin_string;
 use limits::Limits;
 use strings::shape_of;
+use symbols::Shape;
+use symbols::shape_at;
 use tokens::byte_at;
 ghost use mathlib.Core.Path.{_≡_};
-ghost use Prim.Native.Nat.{_*_, _≤_, _<_};
+ghost use Prim.Native.Nat.{_≤_, _<_};
 ghost use lib.ListN.{length};
-ghost use Rattle.limits.specs.Limits.{fileBytes, maxDefinitions};
+ghost use Rattle.limits.specs.Limits.{maxDefinitions};
 ghost use Rattle.context.specs.Store.{store};
 ghost use Rattle.callees.specs.Walk.{Sized};
 ghost use Rattle.unfolding.specs.CalleeTerm.{maxLinks};
 ghost use Rattle.templates.specs.Alike.{FirstsNoted};
-ghost use Rattle.templates.specs.Shaped.{Begun, Cleared, DefinitionStored, DefinitionsShaped, Kept, NextShape, OwnShape, Prepared, StandInShape, StandInsStored, firstStandIn, shapeCount};
+ghost use Rattle.templates.specs.Shaped.{Begun, Cleared, DefinitionStored, DefinitionsShaped, Kept, NextShape, OwnShape, Prepared, StandInShape, StandInsStored, firstStandIn, shapeCount, textBytes};
 
-fn kept_shape(h: u8) -> u8
+fn kept_shape(h: u32) -> u32
     ensures { λ r. ⌜ Kept h r ⌝ }
 {
-    if h < 128 { h } else { 0 }
+    if h < Shape::LIMIT { h } else { 0 }
 }
 
 // The shapes of the definitions, and none yet of any stand-in.
-fn begin_shapes(shapes: &[u8], along: &mut [u8])
+fn begin_shapes(shapes: &[u32], along: &mut [u32])
     requires { ⌜ (length (now shapes) ≡ maxDefinitions) × (length (now along) ≡ shapeCount) ⌝ }
     ensures { λ r. ⌜ Begun (now (shapes .entry)) (now (along .exit)) ⌝ }
 {
     let mut i: usize = 0;
     while i < Room::SHAPES {
-        along[i] = byte_at(shapes, i);
+        along[i] = shape_at(shapes, i);
         i += 1;
     }
 }
@@ -50,10 +52,10 @@ fn standin_shape(
     currents: &[u16],
     outers: &[u16],
     text: &mut [u8],
-    along: &[u8],
+    along: &[u32],
     m: usize,
-) -> u8
-    requires { ⌜ Sized (now numbers) (now currents) (now outers) × (length (now text) ≡ 2 * fileBytes) × (firstStandIn ≤ m) × (m < shapeCount) ⌝ }
+) -> u32
+    requires { ⌜ Sized (now numbers) (now currents) (now outers) × (length (now text) ≡ textBytes) × (firstStandIn ≤ m) × (m < shapeCount) ⌝ }
     ensures { λ r. ⌜ StandInShape (now (file .entry)) (now (refs .entry)) (store (now (names .entry)) (now (facts .entry)) (now (contexts .entry)) (now (orders .entry)) (now (heads .entry))) (now (declared .entry)) n m (now (numbers .entry)) (now (currents .entry)) (now (outers .entry)) (now (along .entry)) r ⌝ }
 {
     let l = (m - Limits::DEFINITIONS) / Limits::DECLARATIONS - 1;
@@ -93,10 +95,10 @@ fn next_shape(
     currents: &[u16],
     outers: &[u16],
     text: &mut [u8],
-    along: &[u8],
+    along: &[u32],
     m: usize,
-) -> u8
-    requires { ⌜ FirstsNoted (now names) (now facts) (now declared) (now firsts) × Sized (now numbers) (now currents) (now outers) × (length (now text) ≡ 2 * fileBytes) × (length (now along) ≡ shapeCount) × (firstStandIn ≤ m) × (m < shapeCount) ⌝ }
+) -> u32
+    requires { ⌜ FirstsNoted (now names) (now facts) (now declared) (now firsts) × Sized (now numbers) (now currents) (now outers) × (length (now text) ≡ textBytes) × (length (now along) ≡ shapeCount) × (firstStandIn ≤ m) × (m < shapeCount) ⌝ }
     ensures { λ r. ⌜ NextShape (now (file .entry)) (now (refs .entry)) (store (now (names .entry)) (now (facts .entry)) (now (contexts .entry)) (now (orders .entry)) (now (heads .entry))) (now (declared .entry)) n m (now (numbers .entry)) (now (currents .entry)) (now (outers .entry)) (now (along .entry)) r ⌝ }
 {
     let e = (m - Limits::DEFINITIONS) % Limits::DECLARATIONS;
@@ -105,7 +107,7 @@ fn next_shape(
     }
     let f = byte_at(firsts, e) as usize;
     if f < e {
-        return byte_at(along, m - e + f);
+        return shape_at(along, m - e + f);
     }
     standin_shape(
         file,
@@ -142,10 +144,10 @@ fn shape_levels(
     currents: &[u16],
     outers: &[u16],
     text: &mut [u8],
-    along: &mut [u8],
+    along: &mut [u32],
     k: usize,
 )
-    requires { ⌜ FirstsNoted (now names) (now facts) (now declared) (now firsts) × Sized (now numbers) (now currents) (now outers) × (length (now text) ≡ 2 * fileBytes) × (length (now along) ≡ shapeCount) × (k ≤ maxLinks) ⌝ }
+    requires { ⌜ FirstsNoted (now names) (now facts) (now declared) (now firsts) × Sized (now numbers) (now currents) (now outers) × (length (now text) ≡ textBytes) × (length (now along) ≡ shapeCount) × (k ≤ maxLinks) ⌝ }
     ensures { λ r. ⌜ StandInsStored (now (file .entry)) (now (refs .entry)) (store (now (names .entry)) (now (facts .entry)) (now (contexts .entry)) (now (orders .entry)) (now (heads .entry))) (now (declared .entry)) n k (now (numbers .entry)) (now (currents .entry)) (now (outers .entry)) (now (along .entry)) (now (along .exit)) ⌝ }
 {
     let end = Limits::DEFINITIONS + Limits::DECLARATIONS * (k + 1);
@@ -189,10 +191,10 @@ fn shape_standins(
     currents: &[u16],
     outers: &[u16],
     text: &mut [u8],
-    along: &mut [u8],
+    along: &mut [u32],
     k: usize,
 )
-    requires { ⌜ Sized (now numbers) (now currents) (now outers) × (length (now text) ≡ 2 * fileBytes) × (length (now along) ≡ shapeCount) × (k ≤ maxLinks) ⌝ }
+    requires { ⌜ Sized (now numbers) (now currents) (now outers) × (length (now text) ≡ textBytes) × (length (now along) ≡ shapeCount) × (k ≤ maxLinks) ⌝ }
     ensures { λ r. ⌜ StandInsStored (now (file .entry)) (now (refs .entry)) (store (now (names .entry)) (now (facts .entry)) (now (contexts .entry)) (now (orders .entry)) (now (heads .entry))) (now (declared .entry)) n k (now (numbers .entry)) (now (currents .entry)) (now (outers .entry)) (now (along .entry)) (now (along .exit)) ⌝ }
 {
     if k == 0 {
@@ -231,15 +233,15 @@ pub fn prepare(
     heads: &[u16],
     declared: &[u16],
     n: usize,
-    shapes: &[u8],
+    shapes: &[u32],
     d: usize,
     numbers: &mut [u16],
     currents: &mut [u16],
     outers: &mut [u16],
     text: &mut [u8],
-    along: &mut [u8],
+    along: &mut [u32],
 ) -> usize
-    requires { ⌜ Sized (now numbers) (now currents) (now outers) × (length (now text) ≡ 2 * fileBytes) × (length (now along) ≡ shapeCount) × (length (now shapes) ≡ maxDefinitions) × (d < maxDefinitions) ⌝ }
+    requires { ⌜ Sized (now numbers) (now currents) (now outers) × (length (now text) ≡ textBytes) × (length (now along) ≡ shapeCount) × (length (now shapes) ≡ maxDefinitions) × (d < maxDefinitions) ⌝ }
     ensures { λ r. ⌜ Prepared (now (file .entry)) (now (refs .entry)) (store (now (names .entry)) (now (facts .entry)) (now (contexts .entry)) (now (orders .entry)) (now (heads .entry))) (now (declared .entry)) n d (now (shapes .entry)) r (now (numbers .exit)) (now (currents .exit)) (now (outers .exit)) (now (along .exit)) ⌝ }
 {
     begin_shapes(shapes, along);
@@ -279,10 +281,10 @@ fn own_shape(
     currents: &[u16],
     outers: &[u16],
     text: &mut [u8],
-    along: &[u8],
+    along: &[u32],
     k: usize,
-) -> u8
-    requires { ⌜ Sized (now numbers) (now currents) (now outers) × (length (now text) ≡ 2 * fileBytes) × (k ≤ maxLinks) ⌝ }
+) -> u32
+    requires { ⌜ Sized (now numbers) (now currents) (now outers) × (length (now text) ≡ textBytes) × (k ≤ maxLinks) ⌝ }
     ensures { λ r. ⌜ OwnShape (now (file .entry)) (now (refs .entry)) (store (now (names .entry)) (now (facts .entry)) (now (contexts .entry)) (now (orders .entry)) (now (heads .entry))) (now (declared .entry)) n k (now (numbers .entry)) (now (currents .entry)) (now (outers .entry)) (now (along .entry)) r ⌝ }
 {
     let t = own_string(
@@ -317,10 +319,10 @@ fn shape_definition(
     currents: &mut [u16],
     outers: &mut [u16],
     text: &mut [u8],
-    along: &mut [u8],
-    shapes: &mut [u8],
+    along: &mut [u32],
+    shapes: &mut [u32],
 )
-    requires { ⌜ Sized (now numbers) (now currents) (now outers) × (length (now text) ≡ 2 * fileBytes) × (length (now along) ≡ shapeCount) × (length (now shapes) ≡ maxDefinitions) × (d < maxDefinitions) ⌝ }
+    requires { ⌜ Sized (now numbers) (now currents) (now outers) × (length (now text) ≡ textBytes) × (length (now along) ≡ shapeCount) × (length (now shapes) ≡ maxDefinitions) × (d < maxDefinitions) ⌝ }
     ensures { λ r. ⌜ DefinitionStored (now (file .entry)) (now (refs .entry)) (store (now (names .entry)) (now (facts .entry)) (now (contexts .entry)) (now (orders .entry)) (now (heads .entry))) (now (declared .entry)) n d (now (shapes .entry)) (now (shapes .exit)) ⌝ }
 {
     let k = prepare(
@@ -361,7 +363,7 @@ fn shape_definition(
     shapes[d] = h;
 }
 
-fn clear_shapes(shapes: &mut [u8])
+fn clear_shapes(shapes: &mut [u32])
     requires { ⌜ length (now shapes) ≡ maxDefinitions ⌝ }
     ensures { λ r. ⌜ Cleared (now (shapes .exit)) ⌝ }
 {
@@ -388,10 +390,10 @@ fn shape_all(
     currents: &mut [u16],
     outers: &mut [u16],
     text: &mut [u8],
-    along: &mut [u8],
-    shapes: &mut [u8],
+    along: &mut [u32],
+    shapes: &mut [u32],
 )
-    requires { ⌜ Sized (now numbers) (now currents) (now outers) × (length (now text) ≡ 2 * fileBytes) × (length (now along) ≡ shapeCount) × (length (now shapes) ≡ maxDefinitions) × (count ≤ maxDefinitions) ⌝ }
+    requires { ⌜ Sized (now numbers) (now currents) (now outers) × (length (now text) ≡ textBytes) × (length (now along) ≡ shapeCount) × (length (now shapes) ≡ maxDefinitions) × (count ≤ maxDefinitions) ⌝ }
     ensures { λ r. ⌜ DefinitionsShaped (now (file .entry)) (now (refs .entry)) (store (now (names .entry)) (now (facts .entry)) (now (contexts .entry)) (now (orders .entry)) (now (heads .entry))) (now (declared .entry)) n count (now (shapes .exit)) ⌝ }
 {
     clear_shapes(shapes);
@@ -431,7 +433,7 @@ pub fn shape_definitions(
     declared: &[u16],
     n: usize,
     count: usize,
-    shapes: &mut [u8],
+    shapes: &mut [u32],
 )
     requires { ⌜ (length (now shapes) ≡ maxDefinitions) × (count ≤ maxDefinitions) ⌝ }
     ensures { λ r. ⌜ DefinitionsShaped (now (file .entry)) (now (refs .entry)) (store (now (names .entry)) (now (facts .entry)) (now (contexts .entry)) (now (orders .entry)) (now (heads .entry))) (now (declared .entry)) n count (now (shapes .exit)) ⌝ }
@@ -440,7 +442,7 @@ pub fn shape_definitions(
     let mut currents = [0u16; Room::LEVELS];
     let mut outers = [0u16; Room::LEVELS];
     let mut text = [0u8; Room::TEXT];
-    let mut along = [0u8; Room::SHAPES];
+    let mut along = [0u32; Room::SHAPES];
     shape_all(
         file,
         refs,

@@ -24,7 +24,7 @@ same-length-3 c = search needs
 returns : tie.Need-returns
 returns c =
     own-taken _ _ _ _ _ _ _ _ _ _ _ _ _ _ (omega (arith, c .before .before .before .before .before .before .before .before .before .before .before .before .before .before .before .before .before .before .before .before .before .before .before .before .before .before .before .before .before .before .before .pre .4)) _ _ _ _ (omega (arith, c .before .before .before .before .before .before .before .before .before .before .before .before .before .before .before .before .before .before .before .before .before .before .before .before .before .before .before .before .before .before .before .pre .3)) (search needs)
-    (c .before .before .before .before .before .before .before .before .before .before .before .before .before .before .own-string .ensures) _ _
+    (c .before .before .before .before .before .before .before .before .before .before .before .before .before .before .own-string .ensures) _ _ (search needs)
     (c .before .before .before .before .before .before .take-all .ensures)
 
 same-length-4 : tie.Need-same-length-4

@@ -1,10 +1,9 @@
 -- `making::take_all`: the string is that of a term on the way.
 use mathlib.Core.Path.{_≡_, refl}
-use Prim.Native.Nat.{_*_}
 use lib.ListN.{length}
 use native.Mathlib.Omega.{arith}
-use Rattle.limits.specs.Limits.{fileBytes}
 use Rattle.context.specs.Store.{store}
+use Rattle.templates.specs.Shaped.{textBytes}
 use Rattle.templates.specs.Taking.{workBytes}
 use Rattle.templates.proofs.Taking.{Underway, underway-end, underway-no, underway-start, underway-turn}
 use borrow.Author.Needs.{needs}
@@ -13,7 +12,7 @@ use Rattle.templates.proofs.making.take_all.Tie as tie
 
 abbrev Inv-loop : tie.InvT-loop
 Inv-loop file refs names facts contexts orders heads declared n numbers currents outers along k text₀ filled₀ work₀ len q₀ h₀ text filled work q h =
-    Underway file refs (store names facts contexts orders heads) declared n k numbers currents outers along work₀ len work q h × (length text ≡ 2 * fileBytes) × (length filled ≡ workBytes) × (length work ≡ workBytes)
+    Underway file refs (store names facts contexts orders heads) declared n k numbers currents outers along work₀ len work q h × (length text ≡ textBytes) × (length filled ≡ workBytes) × (length work ≡ workBytes)
 
 abbrev μ-loop : tie.MeasureT-loop
 μ-loop file refs names facts contexts orders heads declared n numbers currents outers along k text₀ filled₀ work₀ len q₀ h₀ text filled work q h =

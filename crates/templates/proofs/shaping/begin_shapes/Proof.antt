@@ -1,4 +1,4 @@
--- `shaping::begin_shapes`: the first i bytes are copied.
+-- `shaping::begin_shapes`: the first i shapes are copied.
 use Prim.Native.Nat.{_-_}
 use Rattle.templates.proofs.Defining.{Beginning, beginning-end, beginning-start, beginning-turn}
 use borrow.Author.Needs.{needs}
@@ -14,8 +14,11 @@ abbrev μ-loop : tie.MeasureT-loop
 loop-holds : tie.Need-loop-holds Inv-loop μ-loop
 loop-holds c = search (needs, beginning-start)
 
-byte-at-requires : tie.Need-byte-at-requires Inv-loop μ-loop
-byte-at-requires c κs = search needs
+shape-at-requires : tie.Need-shape-at-requires Inv-loop μ-loop
+shape-at-requires c κs = search needs
+
+mul-along : tie.Need-mul-along Inv-loop μ-loop
+mul-along c = search needs
 
 slice-write-along : tie.Need-slice-write-along Inv-loop μ-loop
 slice-write-along c = search needs
@@ -42,7 +45,8 @@ begin-shapes-spec =
     Inv-loop
     μ-loop
     loop-holds
-    byte-at-requires
+    shape-at-requires
+    mul-along
     slice-write-along
     add-i
     loop-less

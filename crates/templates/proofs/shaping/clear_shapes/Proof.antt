@@ -1,4 +1,4 @@
--- `shaping::clear_shapes`: the first i bytes are 0.
+-- `shaping::clear_shapes`: the first i shapes are 0.
 use Prim.Native.Nat.{_-_}
 use Rattle.limits.specs.Limits.{maxDefinitions}
 use Rattle.templates.proofs.Defining.{Clearing, clearing-end, clearing-start, clearing-turn}
@@ -14,6 +14,9 @@ abbrev μ-loop : tie.MeasureT-loop
 
 loop-holds : tie.Need-loop-holds Inv-loop μ-loop
 loop-holds c = search (needs, clearing-start)
+
+mul-shapes : tie.Need-mul-shapes Inv-loop μ-loop
+mul-shapes c = search needs
 
 slice-write-shapes : tie.Need-slice-write-shapes Inv-loop μ-loop
 slice-write-shapes c = search needs
@@ -40,6 +43,7 @@ clear-shapes-spec =
     Inv-loop
     μ-loop
     loop-holds
+    mul-shapes
     slice-write-shapes
     add-i
     loop-less

@@ -16,14 +16,14 @@ byte-at-requires c κs = search needs
 cast-f : tie.Need-cast-f
 cast-f c = search needs
 
-sub-byte-at : tie.Need-sub-byte-at
-sub-byte-at c = search needs
+sub-shape-at : tie.Need-sub-shape-at
+sub-shape-at c = search needs
 
-add-byte-at : tie.Need-add-byte-at
-add-byte-at c = search needs
+add-shape-at : tie.Need-add-shape-at
+add-shape-at c = search needs
 
-byte-at-requires-2 : tie.Need-byte-at-requires-2
-byte-at-requires-2 c κs = search needs
+shape-at-requires : tie.Need-shape-at-requires
+shape-at-requires c κs = search needs
 
 returns-2 : tie.Need-returns-2
 returns-2 c = search (needs, next-alike)
@@ -45,9 +45,9 @@ next-shape-spec =
     returns
     byte-at-requires
     cast-f
-    sub-byte-at
-    add-byte-at
-    byte-at-requires-2
+    sub-shape-at
+    add-shape-at
+    shape-at-requires
     returns-2
     standin-shape-requires
     same-length

@@ -1,11 +1,10 @@
 -- `shaping::shape_all`: the shapes of the first d definitions are right.
 use mathlib.Core.Path.{_≡_}
-use Prim.Native.Nat.{_*_, _-_, _≤_}
+use Prim.Native.Nat.{_-_, _≤_}
 use lib.ListN.{length}
-use Rattle.limits.specs.Limits.{fileBytes}
 use Rattle.context.specs.Store.{store}
 use Rattle.callees.specs.Walk.{Sized}
-use Rattle.templates.specs.Shaped.{shapeCount}
+use Rattle.templates.specs.Shaped.{shapeCount, textBytes}
 use Rattle.templates.proofs.Defining.{Defining, defining-end, defining-start, defining-turn}
 use native.Mathlib.Omega.{arith}
 use borrow.Author.Needs.{needs}
@@ -14,7 +13,7 @@ use Rattle.templates.proofs.shaping.shape_all.Tie as tie
 
 abbrev Inv-loop : tie.InvT-loop
 Inv-loop file refs names facts contexts orders heads declared n count numbers₀ currents₀ outers₀ text₀ along₀ shapes₀ d₀ numbers currents outers text along shapes d =
-    Defining file refs (store names facts contexts orders heads) declared n d shapes × (d ≤ count) × Sized numbers currents outers × (length text ≡ 2 * fileBytes) × (length along ≡ shapeCount)
+    Defining file refs (store names facts contexts orders heads) declared n d shapes × (d ≤ count) × Sized numbers currents outers × (length text ≡ textBytes) × (length along ≡ shapeCount)
 
 abbrev μ-loop : tie.MeasureT-loop
 μ-loop file refs names facts contexts orders heads declared n count numbers₀ currents₀ outers₀ text₀ along₀ shapes₀ d₀ numbers currents outers text along shapes d =

@@ -1,9 +1,9 @@
 -- `shaping::shape_levels`: the stand-ins of numbers below m have their shapes.
 use mathlib.Core.Path.{_≡_}
-use Prim.Native.Nat.{_*_, _-_}
+use Prim.Native.Nat.{_-_}
 use lib.ListN.{length}
-use Rattle.limits.specs.Limits.{fileBytes}
 use Rattle.context.specs.Store.{store}
+use Rattle.templates.specs.Shaped.{textBytes}
 use Rattle.templates.proofs.Storing.{Storing, storing-end, storing-start, storing-turn}
 use borrow.Author.Needs.{needs}
 use Rattle.templates.proofs.shaping.shape_levels.Statement.{statement}
@@ -11,7 +11,7 @@ use Rattle.templates.proofs.shaping.shape_levels.Tie as tie
 
 abbrev Inv-loop : tie.InvT-loop
 Inv-loop file refs names facts contexts orders heads declared n firsts numbers currents outers text₀ along₀ k end m₀ text along m =
-    Storing file refs (store names facts contexts orders heads) declared n k numbers currents outers along₀ along m × (length text ≡ 2 * fileBytes)
+    Storing file refs (store names facts contexts orders heads) declared n k numbers currents outers along₀ along m × (length text ≡ textBytes)
 
 abbrev μ-loop : tie.MeasureT-loop
 μ-loop file refs names facts contexts orders heads declared n firsts numbers currents outers text₀ along₀ k end m₀ text along m =
@@ -34,6 +34,9 @@ loop-holds c = search (needs, storing-start)
 
 next-shape-requires : tie.Need-next-shape-requires Inv-loop μ-loop
 next-shape-requires c κs = (search needs, search needs, search needs, search needs, search needs, search needs)
+
+mul-along : tie.Need-mul-along Inv-loop μ-loop
+mul-along c = search needs
 
 slice-write-along : tie.Need-slice-write-along Inv-loop μ-loop
 slice-write-along c = search needs
@@ -68,6 +71,7 @@ shape-levels-spec =
     add-m
     loop-holds
     next-shape-requires
+    mul-along
     slice-write-along
     add-m-2
     loop-less
