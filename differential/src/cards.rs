@@ -50,72 +50,102 @@ pub fn write(
     misreading: Option<Misreading>,
     level: impl Fn(&[u8]) -> u8,
 ) -> [u8; CARD] {
-    let reads = |which: Misreading| misreading == Some(which);
-    let with = |changes: &[(usize, u8)]| {
-        let mut levels = [0; MOST];
-        changes.iter().for_each(|&(at, value)| levels[at] = value);
-        level(&levels[..count])
+    let probe = Probe {
+        count,
+        misreading,
+        level,
     };
     let mut card = [0; CARD];
-    (card[0], card[1]) = (count as u8, with(&[]));
+    (card[0], card[1]) = (count as u8, probe.with(&[]));
     for at in 0..count {
-        let alone: Vec<u8> = (0..5).map(|value| with(&[(at, value)])).collect();
-        let mut mask: u8 = (0..5)
-            .filter(|&l| alone[l] < 4)
-            .fold(0, |all, l| all | 1 << l);
-        if reads(Misreading::MaskIsCeiling) && mask > 0 {
-            mask = u8::MAX >> mask.leading_zeros();
-        }
-        if reads(Misreading::FourNeverTaken) {
-            mask &= 15;
-        }
-        card[3 + at] = mask;
-        let raises = match misreading {
-            Some(Misreading::WeighsIfUsed) => alone[4] == 4,
-            Some(Misreading::FourWeighs) => alone.iter().any(|&l| l > alone[0]),
-            _ => alone.iter().any(|&l| l > alone[0] && l < 4),
-        };
-        let bit = match misreading {
-            Some(Misreading::WeightsTurned) => MOST - 1 - at,
-            _ => at,
-        };
-        card[2] |= u8::from(raises) << bit;
+        card[3 + at] = probe.mask(at);
+        card[2] |= probe.weight(at);
     }
-    if reads(Misreading::MasksBeyond) {
-        card[3 + count..11].fill(31);
-    }
-    let mut bits = 0u32;
-    for (number, (first, second)) in pairs(count).enumerate() {
-        let meets = |action: usize, temporal: usize| {
-            let each = with(&[(action, 2)]) < 4 && with(&[(temporal, 3)]) < 4;
-            let both = with(&[(action, 2), (temporal, 3)]) == 4;
-            both && (each || reads(Misreading::PairsThoughAlone))
-        };
-        let set = match misreading {
-            Some(Misreading::OneCeiling) => false,
-            Some(Misreading::ActionFirst) => meets(first, second),
-            Some(Misreading::TemporalFirst) => meets(second, first),
-            Some(Misreading::BothWays) => meets(first, second) && meets(second, first),
-            _ => meets(first, second) || meets(second, first),
-        };
-        let bit = match misreading {
-            Some(Misreading::PairsByRow) => {
-                let mut rows = (0..MOST).flat_map(|i| (i + 1..MOST).map(move |j| (i, j)));
-                rows.position(|pair| pair == (first, second))
-                    .expect("a pair")
-            }
-            _ => number,
-        };
-        bits |= u32::from(set) << bit;
-    }
+    let bits = probe.pairs();
     card[11..15].copy_from_slice(&match misreading {
         Some(Misreading::PairsLowFirst) => bits.to_le_bytes(),
         _ => bits.to_be_bytes(),
     });
-    if reads(Misreading::CountLast) {
-        card.swap(0, 15);
+    match misreading {
+        Some(Misreading::MasksBeyond) => card[3 + count..11].fill(31),
+        Some(Misreading::CountLast) => card.swap(0, 15),
+        _ => (),
     }
     card
+}
+
+/// Levels of a definition at vectors of few levels other than 0.
+struct Probe<L> {
+    count: usize,
+    misreading: Option<Misreading>,
+    level: L,
+}
+
+impl<L: Fn(&[u8]) -> u8> Probe<L> {
+    fn with(&self, changes: &[(usize, u8)]) -> u8 {
+        let mut levels = [0; MOST];
+        changes.iter().for_each(|&(at, value)| levels[at] = value);
+        (self.level)(&levels[..self.count])
+    }
+
+    fn mask(&self, at: usize) -> u8 {
+        let taken = (0..5).filter(|&value| self.with(&[(at, value)]) < 4);
+        let mask = taken.fold(0u8, |all, value| all | 1 << value);
+        match self.misreading {
+            Some(Misreading::MaskIsCeiling) if mask > 0 => u8::MAX >> mask.leading_zeros(),
+            Some(Misreading::FourNeverTaken) => mask & 15,
+            _ => mask,
+        }
+    }
+
+    /// The weight of a parameter, as its bit.
+    fn weight(&self, at: usize) -> u8 {
+        let alone: Vec<u8> = (0..5).map(|value| self.with(&[(at, value)])).collect();
+        let mut raised = alone.iter().filter(|&&level| level > alone[0]);
+        let raises = match self.misreading {
+            Some(Misreading::WeighsIfUsed) => alone[4] == 4,
+            Some(Misreading::FourWeighs) => raised.next().is_some(),
+            _ => raised.any(|&level| level < 4),
+        };
+        let bit = match self.misreading {
+            Some(Misreading::WeightsTurned) => MOST - 1 - at,
+            _ => at,
+        };
+        u8::from(raises) << bit
+    }
+
+    fn pairs(&self) -> u32 {
+        let mut bits = 0;
+        for (number, (first, second)) in pairs(self.count).enumerate() {
+            let set = match self.misreading {
+                Some(Misreading::OneCeiling) => false,
+                Some(Misreading::ActionFirst) => self.meets(first, second),
+                Some(Misreading::TemporalFirst) => self.meets(second, first),
+                Some(Misreading::BothWays) => {
+                    self.meets(first, second) && self.meets(second, first)
+                }
+                _ => self.meets(first, second) || self.meets(second, first),
+            };
+            let bit = match self.misreading {
+                Some(Misreading::PairsByRow) => {
+                    let mut rows = (0..MOST).flat_map(|i| (i + 1..MOST).map(move |j| (i, j)));
+                    let found = rows.position(|pair| pair == (first, second));
+                    found.expect("a pair")
+                }
+                _ => number,
+            };
+            bits |= u32::from(set) << bit;
+        }
+        bits
+    }
+
+    /// Whether 2 for the one and 3 for the other give 4 though each alone does not.
+    fn meets(&self, action: usize, temporal: usize) -> bool {
+        let (two, three) = ((action, 2), (temporal, 3));
+        let each = self.with(&[two]) < 4 && self.with(&[three]) < 4;
+        let though = self.misreading == Some(Misreading::PairsThoughAlone);
+        self.with(&[two, three]) == 4 && (each || though)
+    }
 }
 
 #[cfg(test)]

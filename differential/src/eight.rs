@@ -59,7 +59,7 @@ fn full(name: u16, depth: usize) -> Expr {
 
 /// [] or ENABLED of some of the parameters: neither takes every level.
 fn masked(index: usize) -> Expr {
-    let used = (0..8).filter(|i| index * 37 >> i & 1 == 1).map(p);
+    let used = (0..8).filter(|i| (index * 37) >> i & 1 == 1).map(p);
     let inner = used.fold(lit(0), and);
     match index % 2 {
         0 => always(inner),
@@ -121,14 +121,10 @@ fn four_and_four() -> Vec<Family> {
     let at_once = syntax::file(&at_once);
     let last = brought(9, 1_127, &all()).bytes();
     vec![
-        family(
-            "q: 4 and 4, 230 instances",
-            &syntax::file(&often),
-            Call::Check,
-        ),
-        family("q: 4 and 4, 128 definitions", &at_once, Call::Check),
-        family("q: 4 and 4, level", &at_once, over(2, last.clone())),
-        family("q: 4 and 4, expanded", &at_once, expand_over(2, last)),
+        named("4 and 4, 230 instances", &syntax::file(&often), Call::Check),
+        named("4 and 4, 128 definitions", &at_once, Call::Check),
+        named("4 and 4, level", &at_once, over(2, last.clone())),
+        named("4 and 4, expanded", &at_once, expand_over(2, last)),
     ]
 }
 
@@ -175,7 +171,7 @@ fn of_length(bytes: usize, size: &str) -> Vec<Family> {
     let parameters = wide(&joined(all()));
     let calls = wide(&n(1, &turned()));
     let mut all = Vec::new();
-    let mut add = |what: &str, call| all.push(family(&format!("q: {size} {what}"), &file, call));
+    let mut add = |what: &str, call| all.push(named(&format!("{size} {what}"), &file, call));
     add("of parameters", over(1, parameters.clone()));
     add("of parameters, too long", expand_over(1, parameters));
     add("of calls", over(1, calls.clone()));
@@ -184,93 +180,125 @@ fn of_length(bytes: usize, size: &str) -> Vec<Family> {
     all
 }
 
-/// Definitions and calls of eight.
-fn towers() -> Vec<Family> {
-    let mut found = Vec::new();
-    let mut add =
-        |what: &str, file: &[u8], call| found.push(family(&format!("q: {what}"), file, call));
-    let x = || vec![n(X, &[]); 8];
-    let pairs: Vec<Field> = (1..=256)
-        .map(|d| Field::Definition(d, 8, joined(all())))
-        .collect();
-    let pairs = module(pairs);
-    add("256 of eight, all pairs", &pairs, Call::Check);
-    add("256 of eight, alike", &pairs, Call::Alike { a: 0, b: 255 });
-    add(
-        "256 of eight, level",
-        &pairs,
-        over(1, n(256, &turned()).bytes()),
-    );
-    let (turns, last) = tower(joined(all()), &|d| n(d, &turned()));
-    let top = n(last, &x()).bytes();
-    add("254 turns of eight", &turns, Call::Check);
-    add("254 turns of eight, level", &turns, level(1, top.clone()));
-    add("254 turns of eight, expanded", &turns, expand(1, top, ROOM));
+fn named(what: &str, file: &[u8], call: Call) -> Family {
+    family(&format!("q: {what}"), file, call)
+}
+
+/// As many definitions as there may be, each with every pair.
+fn pairs() -> Vec<Family> {
+    let define = |d| Field::Definition(d, 8, joined(all()));
+    let file = module((1..=256).map(define).collect());
+    let last = n(256, &turned()).bytes();
+    vec![
+        named("256 of eight, all pairs", &file, Call::Check),
+        named("256 of eight, alike", &file, Call::Alike { a: 0, b: 255 }),
+        named("256 of eight, level", &file, over(1, last)),
+    ]
+}
+
+/// Definitions that each call the one before with all their parameters, turned by one.
+fn turns() -> Vec<Family> {
+    let (file, last) = tower(joined(all()), &|d| n(d, &turned()));
+    let top = n(last, &vec![n(X, &[]); 8]).bytes();
     let deep = nested(last, 31).bytes();
-    add("254 turns, nested 32, level", &turns, over(1, deep.clone()));
-    add(
-        "254 turns, nested 32, expanded",
-        &turns,
-        expand_over(1, deep),
-    );
-    let (doubles, last) = tower(joined(all()), &|d| {
+    vec![
+        named("254 turns of eight", &file, Call::Check),
+        named("254 turns of eight, level", &file, level(1, top.clone())),
+        named("254 turns of eight, expanded", &file, expand(1, top, ROOM)),
+        named("254 turns, nested 32, level", &file, over(1, deep.clone())),
+        named(
+            "254 turns, nested 32, expanded",
+            &file,
+            expand_over(1, deep),
+        ),
+    ]
+}
+
+/// Each calls the one before in an argument of a call of the one before.
+fn doublings() -> Vec<Family> {
+    let step = |d: u16| {
         let mut arguments = turned();
         arguments[3] = n(d, &all());
         n(d, &arguments)
-    });
-    let top = n(last, &x());
-    add("254 doublings of eight", &doubles, Call::Check);
-    add(
-        "254 doublings, too long",
-        &doubles,
-        expand(1, top.bytes(), ROOM),
-    );
-    let mut dropping = x();
-    dropping[2] = top;
+    };
+    let (file, last) = tower(joined(all()), &step);
+    let mut dropping = vec![n(X, &[]); 8];
+    let top = n(last, &dropping);
+    dropping[2] = top.clone();
     let dropping = n(LAST, &dropping).bytes();
-    add(
-        "254 doublings, dropped",
-        &doubles,
-        expand(1, dropping, ROOM),
-    );
+    vec![
+        named("254 doublings of eight", &file, Call::Check),
+        named(
+            "254 doublings, too long",
+            &file,
+            expand(1, top.bytes(), ROOM),
+        ),
+        named("254 doublings, dropped", &file, expand(1, dropping, ROOM)),
+    ]
+}
+
+/// Calls in calls, as deep as they may be or as wide.
+fn trees() -> Vec<Family> {
     let mut inside = vec![Field::Definition(1, 8, joined(all()))];
     inside.extend((2..=40).map(|d| Field::Definition(d, 8, nested(d - 1, 31))));
-    let file = module(inside);
-    add("40 of calls nested 32", &file, Call::Check);
-    let mut inside = vec![Field::Definition(1, 8, joined(turned()))];
-    inside.push(Field::Definition(2, 8, full(1, 4)));
-    inside.push(Field::Definition(3, 8, op(132, &[full(2, 3), b(0)])));
-    let file = module(inside);
-    add("a tree of calls of eight", &file, Call::Check);
+    let deep = module(inside);
+    let wide = module(vec![
+        Field::Definition(1, 8, joined(turned())),
+        Field::Definition(2, 8, full(1, 4)),
+        Field::Definition(3, 8, op(132, &[full(2, 3), b(0)])),
+    ]);
     let top = n(3, &all()).bytes();
-    add(
-        "a tree of calls of eight, level",
-        &file,
-        over(1, top.clone()),
-    );
-    add(
-        "a tree of calls of eight, too long",
-        &file,
-        expand_over(1, top),
-    );
-    let body = tree_of(29_000, &|i| op(113, &[masked(2 * i + 1)]));
-    let file = module(vec![Field::Definition(1, 8, body)]);
-    add("a body full of masks", &file, Call::Check);
-    let body = tree_of(29_000, &|i| masked(2 * i));
-    let file = module(vec![Field::Definition(1, 8, body)]);
-    add("a body full of other masks", &file, Call::Check);
-    add("a chain under instances of eight", &chain(), Call::Check);
+    vec![
+        named("40 of calls nested 32", &deep, Call::Check),
+        named("a tree of calls of eight", &wide, Call::Check),
+        named(
+            "a tree of calls of eight, level",
+            &wide,
+            over(1, top.clone()),
+        ),
+        named(
+            "a tree of calls of eight, too long",
+            &wide,
+            expand_over(1, top),
+        ),
+    ]
+}
+
+/// Bodies in which every parameter is masked again and again.
+fn masks() -> Vec<Family> {
+    let with =
+        |leaf: &dyn Fn(usize) -> Expr| module(vec![Field::Definition(1, 8, tree_of(29_000, leaf))]);
+    let enabled = with(&|i| op(113, &[masked(2 * i + 1)]));
+    let temporal = with(&|i| masked(2 * i));
+    vec![
+        named("a body full of masks", &enabled, Call::Check),
+        named("a body full of other masks", &temporal, Call::Check),
+    ]
+}
+
+fn chains() -> Vec<Family> {
+    let file = chain();
     let top = brought(159, 3, &all()).bytes();
-    add("a chain, level", &chain(), over(8, top.clone()));
-    add("a chain, too long", &chain(), expand_over(8, top));
-    found
+    vec![
+        named("a chain under instances of eight", &file, Call::Check),
+        named("a chain, level", &file, over(8, top.clone())),
+        named("a chain, too long", &file, expand_over(8, top)),
+    ]
 }
 
 /// All of them; queries of 256 KB, and if `large` of 64 MB too.
 pub fn families(large: bool) -> Vec<Family> {
-    let mut all = towers();
-    all.extend(four_and_four());
-    all.extend(of_length(256 << 10, "256 KB"));
+    let parts = [
+        pairs(),
+        turns(),
+        doublings(),
+        trees(),
+        masks(),
+        chains(),
+        four_and_four(),
+        of_length(256 << 10, "256 KB"),
+    ];
+    let mut all = parts.concat();
     if large {
         all.extend(of_length(64 << 20, "64 MB"));
     }

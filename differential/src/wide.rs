@@ -170,6 +170,35 @@ fn body(count: usize, random: &mut Random) -> Expr {
     joined(parts, random)
 }
 
+/// What is joined in a body of a kind, over so many parameters.
+fn parts(what: &str, count: usize, random: &mut Random) -> Vec<Expr> {
+    let all = turned(count, random);
+    let in_order: Vec<Expr> = (0..count as u8).map(p).collect();
+    let (first, second) = in_order.split_at(1 + random.below(count - 1));
+    let each = |parts: &[Expr], make: fn(Expr) -> Expr| -> Vec<Expr> {
+        parts.iter().cloned().map(make).collect()
+    };
+    let beside = |other: Expr| [&[other], &all[..]].concat();
+    match what {
+        "all pairs" => all,
+        "one pair" => all[..2].to_vec(),
+        "pairs with 2 for the first only" => [each(first, no_temporal), second.to_vec()].concat(),
+        "pairs with 3 for the first only" => [first.to_vec(), each(second, no_temporal)].concat(),
+        "no pair though all weigh" => each(&all, no_temporal),
+        "masks of 31 to 3" => vec![
+            all[0].clone(),
+            enabled(all[1].clone()),
+            enabled(prime(all[2].clone())),
+        ],
+        "masks of 11" => each(&all, always),
+        "nothing weighs beside a 2" => beside(prime(x())),
+        "nothing weighs beside a 3" => beside(always(x())),
+        "all weigh beside a 1" => beside(x()),
+        "4 with all at 0" => beside(prime(prime(lit(0)))),
+        _ => Vec::new(),
+    }
+}
+
 /// A file under construction.
 struct Site<'a> {
     random: &'a mut Random,
@@ -205,170 +234,166 @@ impl Site<'_> {
 
     /// Adds something of so many parameters or arguments; names and modules from an offset on.
     fn construct(&mut self, what: usize, size: usize, offset: u16) {
-        let [k, a, f, d, e, i] = [K, A, F, D, E, I].map(|name| offset + name);
-        let (source, middle) = (offset + 1, offset + 2);
-        let wide = size as u8;
-        let over = FEWEST + self.random.below(MOST - FEWEST + 1);
         match what {
-            0 => {
-                let body = body(size, self.random);
-                self.inside.push(Field::Definition(d, wide, body));
-                self.asked.push((n(d, &turned(size, self.random)), size));
-            }
-            1 => {
-                let all = turned(size, self.random);
-                let call = n(k, &all);
-                let body = self.random.pick(&[
-                    call.clone(),
-                    always(call.clone()),
-                    enabled(call.clone()),
-                    prime(call.clone()),
-                ]);
-                self.inside.push(Field::Constant(k, wide));
-                self.inside.push(Field::Definition(d, wide, body));
-                self.asked.extend([(call, size), (n(d, &all), size)]);
-            }
-            2 => {
-                let inner = body(size, self.random);
-                let arguments = self.arguments(size, over);
-                self.inside.push(Field::Definition(e, wide, inner));
-                let outer = Field::Definition(d, over as u8, n(e, &arguments));
-                self.inside.push(outer);
-                self.asked.push((n(d, &turned(over, self.random)), over));
-            }
-            3 => {
-                let mut arguments = self.arguments(size, over);
-                let inner = n(k, &self.arguments(size, over));
-                arguments[self.random.below(size)] = inner;
-                self.inside.push(Field::Constant(k, wide));
-                let call = n(k, &arguments);
-                let outer = Field::Definition(d, over as u8, call.clone());
-                self.inside.push(outer);
-                self.asked.push((call, over));
-            }
-            4 | 8 => {
-                let own = self.random.below(size + 1);
-                let inner = size - own;
-                let body = and(body(inner, self.random), n(a, &[]));
-                let defined = Field::Definition(f, inner as u8, body);
-                self.module(source, vec![Field::Constant(a, 0), defined]);
-                let mut of = source;
-                if what == 8 {
-                    let through = vec![Field::Constant(a, 0), instance(0, 0, source, &[])];
-                    self.module(middle, through);
-                    of = middle;
-                }
-                let put = match own {
-                    0 => lit(1),
-                    _ => constant_body(own, self.random),
-                };
-                self.inside.push(instance(i, own as u8, of, &[(a, put)]));
-                self.asked
-                    .push((brought(i, f, &turned(size, self.random)), size));
-                let arguments = self.arguments(size, over);
-                let outer = Field::Definition(d, over as u8, brought(i, f, &arguments));
-                self.inside.push(outer);
-            }
-            5 => {
-                let count = 1 + self.random.below(size);
-                let own = size - count;
-                let inner = 1 + self.random.below((MOST - own).min(FEWEST));
-                let arguments: Vec<Expr> = (0..count)
-                    .map(|at| match at % 3 {
-                        2 => lit(at as u16),
-                        _ => p(self.random.below(inner) as u8),
-                    })
-                    .collect();
-                let defined = Field::Definition(f, inner as u8, n(k, &arguments));
-                let declared = Field::Constant(k, count as u8);
-                self.module(source, vec![declared, defined]);
-                let put = constant_body(size, self.random);
-                self.inside
-                    .push(instance(i, own as u8, source, &[(k, put)]));
-                let all = turned(own + inner, self.random);
-                self.asked.push((brought(i, f, &all), own + inner));
-            }
-            _ => {
-                let inner = 1 + self.random.below(3);
-                let arguments: Vec<Expr> = (0..size)
-                    .map(|_| p(self.random.below(inner) as u8))
-                    .collect();
-                let defined = Field::Definition(f, inner as u8, n(k, &arguments));
-                self.module(source, vec![Field::Constant(k, wide), defined]);
-                let itself = match what {
-                    6 => Field::Constant(k, wide),
-                    _ => Field::Definition(k, wide, constant_body(size, self.random)),
-                };
-                self.inside.push(itself);
-                let own = self.random.below(MOST - inner + 1);
-                self.inside.push(instance(i, own as u8, source, &[]));
-                let all = turned(own + inner, self.random);
-                self.asked.push((brought(i, f, &all), own + inner));
-            }
+            0 => self.definition(size, offset),
+            1 => self.operator(size, offset),
+            2 => self.call_of_a_definition(size, offset),
+            3 => self.call_of_an_operator(size, offset),
+            4 => self.brought(size, offset, false),
+            5 => self.written(size, offset),
+            6 => self.stands(size, offset, true),
+            7 => self.stands(size, offset, false),
+            _ => self.brought(size, offset, true),
         }
+    }
+
+    /// A number of parameters.
+    fn size(&mut self) -> usize {
+        FEWEST + self.random.below(MOST - FEWEST + 1)
+    }
+
+    fn ask(&mut self, expr: impl Fn(&[Expr]) -> Expr, count: usize) {
+        let all = turned(count, self.random);
+        self.asked.push((expr(&all), count));
+    }
+
+    fn definition(&mut self, size: usize, offset: u16) {
+        let name = offset + D;
+        let body = body(size, self.random);
+        self.inside.push(Field::Definition(name, size as u8, body));
+        self.ask(|all| n(name, all), size);
+    }
+
+    fn operator(&mut self, size: usize, offset: u16) {
+        let [k, d] = [K, D].map(|name| offset + name);
+        let call = n(k, &turned(size, self.random));
+        let around: fn(Expr) -> Expr =
+            self.random
+                .pick(&[(|inner| inner) as fn(Expr) -> Expr, always, enabled, prime]);
+        self.inside.push(Field::Constant(k, size as u8));
+        self.inside
+            .push(Field::Definition(d, size as u8, around(call)));
+        self.ask(|all| n(k, all), size);
+        self.ask(|all| n(d, all), size);
+    }
+
+    fn call_of_a_definition(&mut self, size: usize, offset: u16) {
+        let [d, e] = [D, E].map(|name| offset + name);
+        let over = self.size();
+        let inner = body(size, self.random);
+        let call = n(e, &self.arguments(size, over));
+        self.inside.push(Field::Definition(e, size as u8, inner));
+        self.inside.push(Field::Definition(d, over as u8, call));
+        self.ask(|all| n(d, all), over);
+    }
+
+    fn call_of_an_operator(&mut self, size: usize, offset: u16) {
+        let [k, d] = [K, D].map(|name| offset + name);
+        let over = self.size();
+        let mut arguments = self.arguments(size, over);
+        let inner = n(k, &self.arguments(size, over));
+        arguments[self.random.below(size)] = inner;
+        let call = n(k, &arguments);
+        self.inside.push(Field::Constant(k, size as u8));
+        self.inside
+            .push(Field::Definition(d, over as u8, call.clone()));
+        self.asked.push((call, over));
+    }
+
+    /// Some of the parameters an instance's, and the others a definition's, which it brings from its module or,
+    /// twice over, from one that this has it from.
+    fn brought(&mut self, size: usize, offset: u16, twice_over: bool) {
+        let [a, f, d, i] = [A, F, D, I].map(|name| offset + name);
+        let (source, middle) = (offset + 1, offset + 2);
+        let own = self.random.below(size + 1);
+        let inner = size - own;
+        let body = and(body(inner, self.random), n(a, &[]));
+        let defined = Field::Definition(f, inner as u8, body);
+        self.module(source, vec![Field::Constant(a, 0), defined]);
+        let mut of = source;
+        if twice_over {
+            let through = vec![Field::Constant(a, 0), instance(0, 0, source, &[])];
+            self.module(middle, through);
+            of = middle;
+        }
+        let put = match own {
+            0 => lit(1),
+            _ => constant_body(own, self.random),
+        };
+        self.inside.push(instance(i, own as u8, of, &[(a, put)]));
+        let over = self.size();
+        let call = brought(i, f, &self.arguments(size, over));
+        self.inside.push(Field::Definition(d, over as u8, call));
+        self.ask(|all| brought(i, f, all), size);
+    }
+
+    /// An operator's substitute, over an instance's parameters and the operator's arguments.
+    fn written(&mut self, size: usize, offset: u16) {
+        let [k, f, i] = [K, F, I].map(|name| offset + name);
+        let count = 1 + self.random.below(size);
+        let own = size - count;
+        let inner = 1 + self.random.below((MOST - own).min(FEWEST));
+        let argument = |at: usize| match at % 3 {
+            2 => lit(at as u16),
+            _ => p(self.random.below(inner) as u8),
+        };
+        let arguments: Vec<Expr> = (0..count).map(argument).collect();
+        let declared = Field::Constant(k, count as u8);
+        let defined = Field::Definition(f, inner as u8, n(k, &arguments));
+        self.module(offset + 1, vec![declared, defined]);
+        let put = constant_body(size, self.random);
+        let bring = instance(i, own as u8, offset + 1, &[(k, put)]);
+        self.inside.push(bring);
+        self.ask(|all| brought(i, f, all), own + inner);
+    }
+
+    /// An operator that stands for itself, declared or defined.
+    fn stands(&mut self, size: usize, offset: u16, declared: bool) {
+        let [k, f, i] = [K, F, I].map(|name| offset + name);
+        let inner = 1 + self.random.below(3);
+        let argument = |_| p(self.random.below(inner) as u8);
+        let arguments: Vec<Expr> = (0..size).map(argument).collect();
+        let defined = Field::Definition(f, inner as u8, n(k, &arguments));
+        let operator = Field::Constant(k, size as u8);
+        self.module(offset + 1, vec![operator.clone(), defined]);
+        self.inside.push(match declared {
+            true => operator,
+            false => Field::Definition(k, size as u8, constant_body(size, self.random)),
+        });
+        let own = self.random.below(MOST - inner + 1);
+        self.inside.push(instance(i, own as u8, offset + 1, &[]));
+        self.ask(|all| brought(i, f, all), own + inner);
     }
 
     /// Adds a definition by what it makes of its card.
     fn body(&mut self, what: &str) {
         let count = match what {
             "all pairs" => MOST,
-            _ => FEWEST + self.random.below(MOST - FEWEST + 1),
+            _ => self.size(),
         };
-        let random = &mut *self.random;
-        let all = turned(count, random);
-        let split = 1 + random.below(count - 1);
-        let in_order: Vec<Expr> = (0..count as u8).map(p).collect();
-        let (first, second) = in_order.split_at(split);
-        let each = |parts: &[Expr], make: fn(Expr) -> Expr| -> Vec<Expr> {
-            parts.iter().cloned().map(make).collect()
+        let body = match what.starts_with("4 in") {
+            true => self.call_with_a_4(what.contains("dropped")),
+            false => joined(parts(what, count, self.random), self.random),
         };
-        let high = random.pick(&[1, 2]);
-        let parts = match what {
-            "all pairs" => all,
-            "one pair" => all[..2].to_vec(),
-            "pairs with 2 for the first only" => {
-                [each(first, no_temporal), second.to_vec()].concat()
-            }
-            "pairs with 3 for the first only" => {
-                [first.to_vec(), each(second, no_temporal)].concat()
-            }
-            "no pair though all weigh" => each(&all, no_temporal),
-            "masks of 31 to 3" => vec![
-                all[0].clone(),
-                enabled(all[1].clone()),
-                enabled(prime(all[2].clone())),
-            ],
-            "masks of 11" => each(&all, always),
-            "nothing weighs beside a 2" => [vec![prime(x())], all].concat(),
-            "nothing weighs beside a 3" => [vec![always(x())], all].concat(),
-            "all weigh beside a 1" => [vec![x()], all].concat(),
-            "all dropped" => Vec::new(),
-            "4 with all at 0" => [vec![prime(prime(lit(0)))], all].concat(),
-            "4 in two arguments of eight" => [vec![prime(x()), always(x())], all].concat(),
-            _ => vec![all[0].clone()],
+        self.inside.push(Field::Definition(D, count as u8, body));
+        self.ask(|all| n(D, all), count);
+    }
+
+    /// A call with a 2 and a 3 among its eight arguments, of a definition that joins all or drops all but the
+    /// first.
+    fn call_with_a_4(&mut self, dropped: bool) -> Expr {
+        let joins = match dropped {
+            true => p(0),
+            false => joined(turned(MOST, self.random), self.random),
         };
-        if what.starts_with("4 in") {
-            // By a call: of one that joins all, or of one that drops all but the first.
-            let joins = match what.contains("dropped") {
-                true => p(0),
-                false => joined((0..MOST as u8).map(p).collect(), random),
-            };
-            let (action, temporal) = (1 + random.below(3), FEWEST + random.below(FEWEST));
-            let mut arguments = vec![parts[0].clone(); MOST];
-            arguments[0] = p(0);
-            arguments[action] = prime(x());
-            arguments[temporal] = always(x());
-            if what.contains("dropped") {
-                arguments[MOST - 1 - high] = prime(prime(x()));
-            }
-            self.inside.push(Field::Definition(E, MOST as u8, joins));
-            let call = Field::Definition(D, count as u8, n(E, &arguments));
-            self.inside.push(call);
-        } else {
-            let body = joined(parts, random);
-            self.inside.push(Field::Definition(D, count as u8, body));
+        self.inside.push(Field::Definition(E, MOST as u8, joins));
+        let mut arguments = vec![p(0); MOST];
+        arguments[1 + self.random.below(3)] = prime(x());
+        arguments[FEWEST + self.random.below(3)] = always(x());
+        if dropped {
+            arguments[MOST - 1] = prime(prime(x()));
         }
-        self.asked.push((n(D, &turned(count, self.random)), count));
+        n(E, &arguments)
     }
 
     /// Queries for what was added.
@@ -411,7 +436,7 @@ pub fn build(number: usize, random: &mut Random) -> Wide {
         Plan::Alone(what, size) => site.construct(what, size, 0),
         Plan::Pair(first, second) => {
             for (what, offset) in [(first, 0), (second, 100)] {
-                let size = FEWEST + site.random.below(MOST - FEWEST + 1);
+                let size = site.size();
                 site.construct(what, size, offset);
             }
         }

@@ -142,8 +142,7 @@ pub fn exact_cards(file: &[u8], cards: &[u8], fuel: usize) -> Result<Exactness, 
     let program = Program::judge(file)?;
     let way = LongWay::new(&program, fuel);
     let mut opinion = Exactness::default();
-    let mut by_card: HashMap<&[u8], (usize, Vec<u8>)> = HashMap::new();
-    let mut by_levels: HashMap<(u8, Vec<u8>), usize> = HashMap::new();
+    let mut earlier = Earlier::default();
     for (number, definition) in program.tables.definitions.iter().enumerate() {
         let Some(tree) = way.definition(number) else {
             opinion.compared.given_up += 1;
@@ -152,20 +151,38 @@ pub fn exact_cards(file: &[u8], cards: &[u8], fuel: usize) -> Result<Exactness, 
         let bytes = &cards[Limits::CARD * number..][..Limits::CARD];
         let card = Card::of(bytes.try_into().expect("a card's bytes"));
         let asked = vectors(definition.parameters as usize);
-        let levels = |vector: &Vec<u8>| way.level(tree, vector);
-        let levels: Vec<u8> = asked.iter().map(levels).collect();
+        let level = |vector: &Vec<u8>| way.level(tree, vector);
+        let levels: Vec<u8> = asked.iter().map(level).collect();
         let wrong = asked.iter().zip(&levels).find(|(v, &l)| card.at(v) != l);
-        opinion
-            .inexact
-            .extend(wrong.map(|(vector, &long)| Inexact::Level {
-                definition: number,
-                levels: vector.clone(),
-                card: card.at(vector),
-                long,
-            }));
+        let wrong = wrong.map(|(vector, &long)| Inexact::Level {
+            definition: number,
+            levels: vector.clone(),
+            card: card.at(vector),
+            long,
+        });
+        opinion.inexact.extend(wrong);
         opinion.compared.definitions[definition.parameters as usize] += 1;
         opinion.compared.vectors += asked.len() as u64;
-        let (first, same) = by_card.entry(bytes).or_insert((number, levels.clone()));
+        earlier.compare(number, card, (definition.parameters, levels), &mut opinion);
+    }
+    Ok(opinion)
+}
+
+/// Parameter count, and the levels at all vectors that are looked at.
+type Levels = (u8, Vec<u8>);
+
+/// The first definition of each card with its levels, and of all levels with its card.
+#[derive(Default)]
+struct Earlier {
+    by_card: HashMap<Card, (usize, Levels)>,
+    by_levels: HashMap<Levels, (usize, Card)>,
+}
+
+impl Earlier {
+    /// Compares a definition with those before: equal cards are those of equal levels.
+    fn compare(&mut self, number: usize, card: Card, levels: Levels, opinion: &mut Exactness) {
+        let own = (number, levels.clone());
+        let (first, same) = self.by_card.entry(card).or_insert(own);
         match *first == number {
             true => opinion.compared.unlike += 1,
             false => opinion.compared.alike += 1,
@@ -174,13 +191,10 @@ pub fn exact_cards(file: &[u8], cards: &[u8], fuel: usize) -> Result<Exactness, 
             let definitions = [*first, number];
             opinion.inexact.push(Inexact::EqualCards { definitions });
         }
-        let first = *by_levels
-            .entry((definition.parameters, levels))
-            .or_insert(number);
-        if cards[Limits::CARD * first..][..Limits::CARD] != *bytes {
+        let (first, same) = *self.by_levels.entry(levels).or_insert((number, card));
+        if same != card {
             let definitions = [first, number];
             opinion.inexact.push(Inexact::EqualLevels { definitions });
         }
     }
-    Ok(opinion)
 }
