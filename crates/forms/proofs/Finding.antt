@@ -8,12 +8,11 @@ use native.Mathlib.Numerals.{add-one}
 use native.Mathlib.Omega.{arith}
 use lib.Bits.{bitOr, or-shifted-r}
 use lib.Dec.{leb, leb→le}
-use lib.ListN.{length, length-append, length-replicate, replicate, set}
+use lib.ListN.{replicate, set}
 use lib.Pow.{shl-exact}
 use Rattle.limits.specs.Limits.{levelCount, maxArity}
 use Rattle.theory.specs.Card.{bitIf, bitsBelow, cardOf, clashes, fourBytes, maskOf, pairBit, pairsBelow, pairsWith, raises, takes, weighs}
 use Rattle.theory.specs.Lists.{any, numbersFrom}
-use Rattle.theory.proofs.Numbers.{numbers-length}
 use Rattle.rows.proofs.Columns.{below-at}
 use Rattle.forms.proofs.Finite.{same}
 use Rattle.forms.specs.Cards.{Paired, WithBit, laidOut}
@@ -131,11 +130,6 @@ set-next f i zero k x e = ap (λ (y : ℕ). y ∷ replicate k 0) (e ∙ ap f (ad
 set-next f i (suc m) k x e = ap (λ (l : List ℕ). f i ∷ l) (set-next f (suc i) m k x (e ∙ ap f (add-suc i m ∙ sym (suc-add i m))))
 
 module _ (n : ℕ) (f : List ℕ → ℕ) (masks : List ℕ) (weights pairs i : ℕ) (inv : Found n f masks weights pairs i) (fits : n ≤ maxArity) where
-  pub found-length : length masks ≡ maxArity
-  found-length =
-      ap length (inv .masked) ∙ length-append (map (maskOf n f) (numbersFrom 0 i)) (replicate (maxArity - i) 0)
-      ∙ ap₂ _+_ (numbers-length (maskOf n f) 0 i) (length-replicate (maxArity - i) 0) ∙ omega (arith, inv .upTo)
-
   pub found-turn : (m : ℕ) (b : Bool) (u p : ℕ) → i < n → ((n : ℕ) → i < n → m ≡ maskOf n f i) → ((n : ℕ) → i < n → b ≡ weighs n f i) → WithBit weights i b u → Paired f i pairs p
       → Found n f (set masks i m) u p (i + 1)
   found-turn m b u p h em eb w q =
