@@ -134,7 +134,7 @@ module _ (levels expr : List ℕ) (bytes : Bytes expr) where
   unfolding readingCause
   reading-none h = rw h refl
 
-  -- without these causes, an expression is spelt that keeps the limits, and the levels are levels of at most three parameters
+  -- without these causes, an expression is spelt that keeps the limits, and the levels are levels of at most eight parameters
   clear-spelt : readingCause levels expr ≡ 0 → (e : Expression) × (expression .read expr ≡ some e)
       × (three (any (λ l. leb levelCount l) levels) (overArity (length levels)) (overLimit e) ≡ 0)
   clear-spelt z = go (wholeOf expr) refl

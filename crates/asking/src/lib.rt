@@ -58,7 +58,7 @@ fn reply_of(expr: &[u8], levels: &[u8], w: Walked, fields: usize) -> Asked
     Asked::Refused(limit_cause(expr), fields)
 }
 
-// The reply in module m, at most three levels being given.
+// The reply in module m, at most eight levels being given.
 fn walked_reply(
     expr: &[u8],
     levels: &[u8],

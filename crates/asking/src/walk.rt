@@ -54,7 +54,7 @@ fn stopped(at: usize) -> Walked
     }
 }
 
-// Adds at most three arguments from a position on. Where one is left, its own arguments are what is left.
+// Adds at most eight arguments from a position on. Where one is left, its own arguments are what is left.
 fn walk_args(
     s: &[u8],
     column: &[u16],

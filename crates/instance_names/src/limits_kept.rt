@@ -1,4 +1,4 @@
-// Cause 5: "3 parameters or arguments (an instance's and an operator's own added together, and likewise those of a written substitute)",
+// Cause 5: 8 "parameters or arguments (an instance's and an operator's own added together, and likewise those of a written substitute)",
 // the limits of each expression, and "256 definitions in the file".
 ghost use mathlib.Core.Path.{_≡_};
 ghost use Prim.Native.Nat.{_+_, _-_, _≤_, _<_, _^_};

@@ -244,7 +244,7 @@ fn as_body(reply: Replied) -> BodyReply
     }
 }
 
-// "The level of an expression over 0 to 3 parameters, a level from 0 to 4 being given for each, at the end of a module"
+// "The level of an expression" over 0 to 8 parameters, "a level from 0 to 4 being given for each, at the end of a module"
 pub fn level(file: &[u8], cards: &mut [u8], module: u16, expr: &[u8], levels: &[u8]) -> Asked
     ensures { λ r. ⌜ answer (outcomeOf r) (now (cards .exit)) ≡ levelQuery (now (file .entry)) (now (cards .entry)) «module» (now (levels .entry)) (now (expr .entry)) ⌝ }
 {

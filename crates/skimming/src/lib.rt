@@ -233,7 +233,7 @@ fn next_step(
     any_step(s, column, table, nexts, contexts, names, facts, p, bound, a)
 }
 
-// At most three arguments from a position on; in the last of them `within` variables are bound, in the others `around`. Where one is left, its
+// At most eight arguments from a position on; in the last of them `within` variables are bound, in the others `around`. Where one is left, its
 // own arguments are what is left.
 fn skim_args(
     s: &[u8],

@@ -62,7 +62,7 @@ module _ (s : State) (σ σ′ : ℕ → ℕ) where
   pub same-shapes : (t u : Term) → Same (senseOf s σ) t u → Same (senseOf s σ′) t u
   same-shapes t u a = record { asBytes = a .asBytes; asSizes = a .asSizes }
 
--- What is known of a state are definitions of at most three parameters.
+-- What is known of a state are definitions of at most eight parameters.
 module _ (s : State) (sound : SoundFrom [] (s .definitions)) where
   pub arity-inside : (h m : ℕ) → aritiesOf (templatesOf s) h ≡ some m → h < length (s .definitions)
   arity-inside h m e = omega (arith, known-below (templatesOf s) h m e, length-templates [] (s .definitions))
