@@ -9,14 +9,16 @@ use Rattle.demands.specs.Archive.{stateOf}
 use Rattle.demands.specs.ShortCards.{Body, Carded, ShortCards, bytesOf, countOf}
 use Rattle.laws.proofs.CheckMemory.{card-left}
 use Rattle.laws.proofs.Checks.{by-fields}
-use Rattle.laws.proofs.ExpandedCards.{card-body}
-use Rattle.laws.proofs.Invariant.{good-file}
+use Rattle.laws.proofs.ExpandedCards.{card-body, card-holds}
+use Rattle.laws.proofs.Invariant.{good-adds, good-file, good-start}
 use Rattle.laws.proofs.Memory.{few-params}
-use Rattle.laws.proofs.Within.{within-file}
+use Rattle.laws.proofs.Obeying.{obey-clears}
+use Rattle.laws.proofs.Within.{within-adds, within-file, within-start}
 use Rattle.laws.specs.Cards.{nameAtParams}
+use Rattle.laws.specs.Lawful.{adds}
 use Rattle.limits.specs.Limits.{cardBytes, maxArity}
 use Rattle.rules.specs.Run.{checked, judgeFile, result}
-use Rattle.rules.specs.State.{State, expansionOf}
+use Rattle.rules.specs.State.{State, expansionOf, start}
 use Rattle.theory.proofs.ExactCards.{exact-cards}
 use Rattle.theory.specs.Card.{readCard}
 use Rattle.theory.specs.ExactCards.{cardFor}
@@ -64,4 +66,8 @@ short-cards =
             λ same. there (sym (by-probing d t b) ∙ same ∙ by-probing e u c),
             λ levels. by-probing d t b ∙ back levels ∙ sym (by-probing e u c),
           );
+      judged-by-cards =
+          λ before fit obey g there v w.
+          let clears = obey-clears before start obey in
+          sym (card-holds (adds start before) (good-adds before start fit clears good-start) g there (within-adds before start clears within-start) v (w .0) (w .1));
     }

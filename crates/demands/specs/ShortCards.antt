@@ -11,9 +11,12 @@ use Prim.Native.Nat.{_<_, _≤_, ℕ}
 use Rattle.demands.specs.Archive.{checkLeaves, checkTells, stateOf}
 use Rattle.demands.specs.LongWay.{InFull}
 use Rattle.laws.specs.Cards.{cardIn, cardPart, nameAtParams}
+use Rattle.laws.specs.Lawful.{EachObeys, adds}
 use Rattle.limits.specs.Limits.{cardBytes, maxArity}
-use Rattle.rules.specs.Run.{result}
-use Rattle.rules.specs.State.{paramsOf}
+use Rattle.rules.specs.Field.{Field, FieldFits}
+use Rattle.rules.specs.Run.{card, result}
+use Rattle.rules.specs.State.{cardLevel, paramsOf, start}
+use Rattle.theory.specs.Card.{readCard}
 use Rattle.theory.specs.ExactCards.{Vector, cardFor}
 use Rattle.theory.specs.Lists.{All}
 use Rattle.theory.specs.Term.{Term, level, longWay}
@@ -51,3 +54,6 @@ pub record ShortCards : Type 0 where
   -- "equal cards mean equal levels at every vector", and the other way round: of definitions of one file or of two
   pub equal-cards : (d e : Carded) (t u : Term) → Body d t → Body e u
       → (bytesOf d ≡ bytesOf e) ↔ ((countOf d ≡ countOf e) × ((v : List ℕ) → Vector (countOf d) v → level longWay v t ≡ level longWay v u))
+  -- "A defined name or I!F has what its card says": so it is already where fields are judged (causes 12, 13, 14 and 21), after whatever fields obey. `cardLevel` is what the rules go by there.
+  pub judged-by-cards : (before : List Field) → All FieldFits before → EachObeys start before → (g : ℕ) → g < length (adds start before .definitions)
+      → (v : List ℕ) → Vector (paramsOf (adds start before) g) v → cardLevel (adds start before) g v ≡ readCard (card (adds start before) g) v

@@ -31,7 +31,7 @@ module _ (s : State) (good : Good s) (g : ℕ) (there : g < length (s .definitio
       subst⁻¹ (All (λ b. b < 256)) card-body (exact-cards .sixteen (paramsOf s g) (few-params s within g there) (expansionOf s (nameAtParams s g)) .1)
 
   module _ (within : Within s) (ρ : List ℕ) (n : length ρ ≡ paramsOf s g) (a : All IsLevel ρ) where
-    card-holds : readCard (card s g) ρ ≡ cardLevel s g ρ
+    pub card-holds : readCard (card s g) ρ ≡ cardLevel s g ρ
     card-holds =
         ap (λ (c : List ℕ). readCard c ρ) card-body ∙ exact-cards .exact (paramsOf s g) (few-params s within g there) (expansionOf s (nameAtParams s g)) ρ (n, a)
         ∙ sym (card-level ρ n a)
