@@ -1,7 +1,7 @@
 -- The arguments of a call, one after another.
 use mathlib.Core.Bool.{Bool, cond, false, true}
 use mathlib.Core.List.{List, [], _++_, _∷_, append-assoc}
-use mathlib.Core.Path.{_≡_, _∙_, ap, refl, subst, sym}
+use mathlib.Core.Path.{_≡_, _∙_, ap, subst, sym}
 use lib.Dec.{eqb, ltb}
 use lib.ListN.{getD, length}
 use native.Mathlib.Omega.{arith}
@@ -13,7 +13,7 @@ use Rattle.symbols.proofs.Scanning.{piece-size}
 use Rattle.symbols.proofs.Shaping.{shaped-any, shapeds-any}
 use Rattle.symbols.proofs.Sizes.{size-append}
 use Rattle.symbols.specs.Pieces.{Shaped, ShapedHead, scan}
-use Rattle.symbols.specs.Spell.{aloneShape, maskOf, masked, maxParams, spell}
+use Rattle.symbols.specs.Spell.{aloneShape, maskOf, masked, spell}
 use Rattle.symbols.specs.Symbol.{Symbol, call, size}
 use Rattle.strings.specs.Read.{shapeIn, stringAt}
 use Rattle.rewriting.proofs.Bits.{places-cover}

@@ -64,14 +64,7 @@ fn argument_end(a: &[u8], shapes: &[u32], arities: &[u8], h: u32, at: usize) -> 
 }
 
 // Where the arguments of a call begin and end, those whose bits in h are set, the first at a position: each begins where the one before it ends.
-fn arguments(
-    a: &[u8],
-    shapes: &[u32],
-    arities: &[u8],
-    h: u32,
-    at: usize,
-    bounds: &mut [usize],
-)
+fn arguments(a: &[u8], shapes: &[u32], arities: &[u8], h: u32, at: usize, bounds: &mut [usize])
     requires { ⌜ (length (now a) < 2 ^ 48) × (now arities ≡ arityColumn) × (length (now bounds) ≡ boundCount) ⌝ }
     ensures { λ r. ⌜ Bounds (now (a .entry)) (now (shapes .entry)) h at (now (bounds .exit)) ⌝ }
 {

@@ -1,6 +1,6 @@
 -- Parts of the string of a task, symbol by symbol, and the calls in them: what stands in the memory at a part's place, and where a call's arguments
 -- and the rest of the part stand.
-use mathlib.Core.Bool.{cond, false, true}
+use mathlib.Core.Bool.{false, true}
 use mathlib.Core.List.{List, [], _++_, _∷_, append-assoc, append-nil}
 use mathlib.Core.Path.{_∙_, _≡_, ap, fun-ext, refl, subst, sym}
 use borrow.Author.Tests.{ltb-true}

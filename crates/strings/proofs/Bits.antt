@@ -1,10 +1,9 @@
 -- The bits of the parameters that occur, put together symbol by symbol.
 -- Assumes nothing.
-use mathlib.Core.Bool.{Bool, _||_, cond, false, or-false, true}
+use mathlib.Core.Bool.{Bool, _||_, cond, false, true}
 use mathlib.Core.List.{List, [], _++_, _∷_, append-assoc, append-nil}
 use mathlib.Core.Path.{_≡_, ap, refl, sym, _∙_}
-use Prim.Native.Nat.{ℕ, zero, suc, _%_, _*_, _+_, _/_, _^_, _≤_, _<_, max}
-use native.Mathlib.Nat.{add-suc, suc-add}
+use Prim.Native.Nat.{ℕ, zero, suc, _%_, _*_, _+_, _/_, _^_, _≤_, _<_}
 use native.Mathlib.Omega.{arith}
 use lib.Bits.{bitOr, or-step, or-zero-r}
 use lib.Dec.{eqb, ltb}
