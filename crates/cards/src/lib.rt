@@ -25,7 +25,7 @@ pub fn clear_cards(cards: &mut [u8])
     }
 }
 
-// An argument count of a definition; none has more than the limit.
+// A parameter count of a definition; none has more than the limit.
 fn within(n: u16) -> usize
     ensures { λ r. ⌜ (r ≡ cond (ltb maxArity n) 0 n) × (r ≤ maxArity) ⌝ }
 {

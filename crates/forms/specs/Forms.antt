@@ -10,7 +10,7 @@ use Rattle.theory.specs.Lists.{All, paramLevels}
 use Rattle.forms.specs.declared.Led.{Led}
 use Rattle.forms.specs.Labels.{coded, levelOf, under, whole}
 
--- how many parameters a form has room for
+-- how many parameters a form has room for: an instance's eight, and then an operator's eight
 abbrev pub width : ℕ
 width = 16
 
