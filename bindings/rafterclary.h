@@ -99,9 +99,9 @@ uint32_t rafterclary_expand(const uint8_t *file, size_t file_length, uint8_t *ca
  * Parameters are counted from 0, and bit 0 is the lowest. Unused masks and bits are 0. Equal cards
  * mean equal levels whatever levels the parameters have.
  *
- * What follows reads a card and nothing else, and calls nothing of the archive. The other arguments
- * may be any numbers: a parameter that is not there is taken at no level, does not weigh and
- * clashes with none. */
+ * What follows reads a card and nothing else, and calls nothing of the archive. A definition is one
+ * of those that a check replied with; the other numbers may be any: a parameter that is not there is
+ * taken at no level, does not weigh and clashes with none. */
 static inline const uint8_t *rafterclary_card(const uint8_t *cards, uint32_t definition) {
     return cards + (size_t)RAFTERCLARY_CARD_BYTES * definition;
 }
@@ -121,7 +121,7 @@ static inline uint32_t rafterclary_card_mask(const uint8_t *card, size_t i) {
 }
 
 /* 1 if parameter i is taken at the level, else 0. */
-static inline int rafterclary_card_takes(const uint8_t *card, size_t i, uint8_t level) {
+static inline int rafterclary_card_takes(const uint8_t *card, size_t i, uint32_t level) {
     return level <= 4 && ((rafterclary_card_mask(card, i) >> level) & 1) == 1;
 }
 
