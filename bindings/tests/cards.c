@@ -1,5 +1,5 @@
 /* Reads cards through the header: at every choice of levels what a card says is the level of the
- * body that it is of, and no choice of numbers reads past a card or its levels. Needs no archive.
+ * body that it is of, and numbers that are none are told. Needs no archive.
  * Exits with the number of the first line that does not hold, 0 if all do. */
 #include "rafterclary.h"
 
@@ -24,6 +24,12 @@ static uint32_t prime(uint32_t p) { return p <= 1 ? 2 : 4; }
 static uint32_t enabled(uint32_t p) { return p <= 2 ? 1 : 4; }
 static uint32_t always(uint32_t p) { return p == 2 || p == 4 ? 4 : 3; }
 static uint32_t fair(uint32_t v, uint32_t a) { return v <= 1 && a <= 2 ? 3 : 4; }
+
+/* x': no parameter */
+static uint32_t step(const uint8_t *v) {
+    (void)v;
+    return prime(1);
+}
 
 /* p' */
 static uint32_t primed(const uint8_t *v) { return prime(v[0]); }
@@ -59,6 +65,7 @@ struct example {
 };
 
 static const struct example examples[] = {
+    {{0, 2}, step},
     {{1, 2, 0, 3}, primed},
     {{1, 4, 0, 0}, nothing},
     {{6, 1, 0x1c, 3, 7, 15, 15, 15, 7, 0, 0, 0, 0, 3, 0x20, 0}, ready},
@@ -66,6 +73,8 @@ static const struct example examples[] = {
     {{8, 1, 0xe9, 15, 7, 31, 15, 3, 7, 15, 15, 0x0d, 0x34, 0xa4, 0x08, 0}, some},
     {{8, 0, 0xff, 15, 15, 15, 15, 15, 15, 15, 15, 0x0f, 0xff, 0xff, 0xff, 0}, all},
 };
+
+#define EXAMPLES (sizeof examples / sizeof *examples)
 
 /* The next choice of levels; 0 after the last. */
 static int next(uint8_t *levels, size_t count) {
@@ -103,6 +112,7 @@ static int parts(const struct example *example) {
             raised = raised || (alone != 4 && alone > example->card[1]);
         }
         EXPECT(rafterclary_card_weighs(example->card, i) == raised);
+        EXPECT(!rafterclary_card_clash(example->card, i, i));
         for (j = 0; j < count; j++) {
             EXPECT(rafterclary_card_clash(example->card, i, j) ==
                    rafterclary_card_clash(example->card, j, i));
@@ -111,38 +121,66 @@ static int parts(const struct example *example) {
     return 0;
 }
 
-/* Numbers that are no parameter, level or count; there is nothing to read behind `levels`. */
-static int none(void) {
-    static const size_t beyond[] = {8, 9, 31, 32, 64, SIZE_MAX};
-    const uint8_t *card = examples[4].card;
-    const uint8_t levels[8] = {0, 0, 0, 0, 0, 0, 0, 5};
-    uint8_t made_up[RAFTERCLARY_CARD_BYTES];
-    size_t i;
-    for (i = 0; i < sizeof beyond / sizeof *beyond; i++) {
-        EXPECT(rafterclary_card_mask(card, beyond[i]) == 0);
-        EXPECT(!rafterclary_card_takes(card, beyond[i], 0));
-        EXPECT(!rafterclary_card_weighs(card, beyond[i]));
-        EXPECT(!rafterclary_card_clash(card, 0, beyond[i]));
-        EXPECT(!rafterclary_card_clash(card, beyond[i], beyond[i]));
+/* Numbers that are no parameter, of the card with all pairs. */
+static int beyond(void) {
+    static const size_t numbers[] = {8, 9, 31, 32, 64, SIZE_MAX};
+    const uint8_t *card = examples[EXAMPLES - 1].card;
+    size_t i, j;
+    for (i = 0; i < sizeof numbers / sizeof *numbers; i++) {
+        EXPECT(rafterclary_card_mask(card, numbers[i]) == 0);
+        EXPECT(!rafterclary_card_takes(card, numbers[i], 0));
+        EXPECT(!rafterclary_card_weighs(card, numbers[i]));
+        EXPECT(!rafterclary_card_clash(card, numbers[i], numbers[i]));
+        for (j = 0; j < RAFTERCLARY_MAX_PARAMETERS; j++) {
+            EXPECT(!rafterclary_card_clash(card, j, numbers[i]));
+            EXPECT(!rafterclary_card_clash(card, numbers[i], j));
+        }
     }
-    EXPECT(!rafterclary_card_takes(card, 2, 5) && !rafterclary_card_takes(card, 2, 255));
+    return 0;
+}
+
+/* Levels and numbers of levels that are none. */
+static int none(void) {
+    static const uint8_t zeros[255] = {0};
+    const uint8_t *card = examples[EXAMPLES - 1].card;
+    static const uint8_t levels[RAFTERCLARY_MAX_PARAMETERS] = {4, 0, 0, 0, 0, 0, 0, 5};
+    uint8_t made_up[RAFTERCLARY_CARD_BYTES];
+    size_t i, count;
+    EXPECT(RAFTERCLARY_NO_LEVEL > 4);
+    EXPECT(!rafterclary_card_takes(card, 2, 5) && !rafterclary_card_takes(card, 2, 256));
+    /* Also where a level before it is not taken. */
     EXPECT(rafterclary_card_level(card, levels, 8) == RAFTERCLARY_NO_LEVEL);
-    EXPECT(rafterclary_card_level(card, levels, 7) == RAFTERCLARY_NO_LEVEL);
-    EXPECT(rafterclary_card_level(card, levels, 0) == RAFTERCLARY_NO_LEVEL);
-    EXPECT(rafterclary_card_level(card, levels, SIZE_MAX) == RAFTERCLARY_NO_LEVEL);
+    for (i = 0; i < EXAMPLES; i++) {
+        for (count = 0; count < sizeof zeros; count++) {
+            uint32_t level = rafterclary_card_level(examples[i].card, zeros, count);
+            EXPECT((level == RAFTERCLARY_NO_LEVEL) == (count != examples[i].card[0]));
+        }
+        EXPECT(rafterclary_card_level(examples[i].card, zeros, SIZE_MAX) == RAFTERCLARY_NO_LEVEL);
+    }
     memset(made_up, 255, sizeof made_up);
-    EXPECT(rafterclary_card_level(made_up, levels, 255) == RAFTERCLARY_NO_LEVEL);
+    EXPECT(rafterclary_card_level(made_up, zeros, 255) == RAFTERCLARY_NO_LEVEL);
+    made_up[0] = 9;
+    EXPECT(rafterclary_card_level(made_up, zeros, 9) == RAFTERCLARY_NO_LEVEL);
+    return 0;
+}
+
+/* Where the cards stand. */
+static int places(void) {
+    static const uint8_t memory[RAFTERCLARY_CARD_MEMORY] = {0};
+    EXPECT(rafterclary_card(memory, 0) == memory);
+    EXPECT(rafterclary_card(memory, 1) == memory + 16);
+    EXPECT(rafterclary_card(memory, 255) == memory + 4080);
     return 0;
 }
 
 int main(void) {
+    int line = 0;
     size_t i;
-    for (i = 0; i < sizeof examples / sizeof *examples; i++) {
-        int line = exact(&examples[i]);
+    for (i = 0; line == 0 && i < EXAMPLES; i++) {
+        line = exact(&examples[i]);
         line = line == 0 ? parts(&examples[i]) : line;
-        if (line != 0) {
-            return line;
-        }
     }
-    return none();
+    line = line == 0 ? beyond() : line;
+    line = line == 0 ? none() : line;
+    return line == 0 ? places() : line;
 }

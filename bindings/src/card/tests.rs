@@ -247,6 +247,10 @@ fn reasons() {
             Reading::NotTaken { parameter, level },
         ),
         (
+            [0, 0, 0, 0, 0, 3, 4, 4],
+            Reading::NotTaken { parameter, level },
+        ),
+        (
             [0, 0, 0, 3, 0, 2, 2, 0],
             Reading::Clash {
                 action: 5,
@@ -301,6 +305,11 @@ fn levels_that_are_none() {
         let said = format!("the level given for p1 is {level}, and levels are 0 to 4");
         assert_eq!(told.to_string(), said);
     }
+    let (parameter, level) = (0, 6);
+    assert_eq!(
+        and.level(&[6, 5]),
+        Err(BadLevels::Level { parameter, level })
+    );
     let told = and.level(&[1]).expect_err("one is missing");
     assert_eq!(
         told.to_string(),
@@ -370,6 +379,12 @@ fn in_words() {
         (
             "06011c03070f0f0f0700000000032000",
             "level 1; p0 01; p1, p5 012; p2, p3, p4 0123 weigh; any two of p2, p3, p4 clash",
+        ),
+        // Of two that are taken at the same levels one weighs.
+        (
+            "0801e90f071f0f03070f0f0d34a40800",
+            "level 1; p0, p3, p6, p7 0123 weigh; p1 012; p2 01234; p4 01; p5 012 weighs; \
+             any two of p0, p3, p5, p6, p7 clash",
         ),
     ] {
         let card = card(digits);
