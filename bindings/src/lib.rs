@@ -302,12 +302,12 @@ mod tests {
         assert_eq!(check(&file, &mut cards), Ok(1));
         let card = Card::of(&cards, 0).expect("a card");
         assert_eq!(format!("{card:x}"), "0801e90f071f0f03070f0f0d34a40800");
-        let vectors = (0..8u32).flat_map(|i| (0..125u8).map(move |entry| (i, entry)));
-        for (place, entry) in vectors {
+        let vectors = (0..8u32).flat_map(|i| (0..125u8).map(move |choice| (i, choice)));
+        for (place, choice) in vectors {
             // Three neighbours at every choice of levels, the others at 1.
             let mut levels = [1; 8];
             for (next, scale) in [1, 5, 25].into_iter().enumerate() {
-                levels[(place as usize + next) % 8] = entry / scale % 5;
+                levels[(place as usize + next) % 8] = choice / scale % 5;
             }
             let expected = level(&file, &mut cards, 1, &body, &levels);
             assert_eq!(

@@ -36,9 +36,9 @@ fn fair(v: u8, a: u8) -> u8 {
 /// Every vector over n parameters.
 fn vectors(n: usize) -> impl Iterator<Item = Vec<u8>> {
     let count = 5usize.pow(n as u32);
-    (0..count).map(move |entry| {
+    (0..count).map(move |number| {
         (0..n)
-            .map(|i| (entry / 5usize.pow(i as u32) % 5) as u8)
+            .map(|i| (number / 5usize.pow(i as u32) % 5) as u8)
             .collect()
     })
 }
