@@ -28,8 +28,8 @@ pub struct Card {
 }
 
 impl Card {
-    /// The card with these bytes, `None` if no card has them: a count above 8, a level above 4, or
-    /// something set that is not used.
+    /// The card with these bytes, `None` if they are not laid out as a card is: a count above 8, a
+    /// level above 4, or something set that is not used.
     pub fn new(bytes: [u8; CARD]) -> Option<Card> {
         let [count, level, weights, masks @ .., _, _, _, _, last] = bytes;
         let used = usize::from(count);
@@ -46,7 +46,8 @@ impl Card {
         fits.then_some(card)
     }
 
-    /// The card of a definition of an accepted file, given by its number: `None` beyond the memory.
+    /// The card of a definition of an accepted file, given by its number: `None` beyond the memory,
+    /// and where it holds something else.
     pub fn of(cards: &[u8], definition: usize) -> Option<Card> {
         let bytes = cards.chunks_exact(CARD).nth(definition)?;
         Card::new(bytes.try_into().ok()?)
