@@ -161,8 +161,8 @@ pub enum Command {
         file: PathBuf,
         /// Its number, or NAME or INSTANCE!NAME, with MODULE: before it where several have the name
         definition: String,
-        /// Levels to read it at: NAME=LEVEL, or LEVEL alone for the parameters in turn; those that
-        /// are not given are at 0
+        /// Levels to read it at: NAME=LEVEL, or LEVEL alone for the parameter in its place; those
+        /// that are not given are at 0
         #[arg(value_name = "LEVEL")]
         levels: Vec<String>,
     },

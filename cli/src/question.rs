@@ -196,8 +196,8 @@ fn given_level(word: &str, level: &str) -> Result<u8, Misuse> {
     })
 }
 
-/// A level for each parameter of a definition: `NAME=LEVEL`, or levels in turn; 0 where none is
-/// given.
+/// A level for each parameter of a definition: `NAME=LEVEL`, or a level alone for the parameter in
+/// its place; 0 where none is given.
 pub fn levels_of(
     written: &str,
     parameters: &[String],

@@ -82,6 +82,12 @@ fn cards_at_levels() {
             "rope=1 step=2 slack=1 load=1 brake=3 order=2: 3 temporal: \
              brake at 3 is the highest that weighs",
         ),
+        // A level alone is that of the parameter in its place.
+        (
+            &["slack=2", "1"],
+            "rope=0 step=1 slack=2 load=0 brake=0 order=0: 2 transition: \
+             slack at 2 is the highest that weighs",
+        ),
         (
             &["1", "order=transition", "load=state"],
             "rope=1 step=0 slack=0 load=1 brake=0 order=2: 1 state: \
