@@ -49,9 +49,9 @@ uint32_t rafterclary_check(const uint8_t *file, size_t file_length, uint8_t *car
                            size_t cards_length);
 
 /* The level of an expression at the end of a module, 0 to 4 (4: not level-correct), with the
- * parameters, 8 at most, at the levels given, one byte each. A transition (2) beside a temporal formula (3) is
- * not level-correct. An expression may have any length. The place of a refusal of the expression
- * or the levels is the number of the file's fields. */
+ * parameters, 8 at most, at the levels given, one byte each. A transition (2) beside a temporal
+ * formula (3) is not level-correct. An expression may have any length. The place of a refusal of
+ * the expression or the levels is the number of the file's fields. */
 uint32_t rafterclary_level(const uint8_t *file, size_t file_length, uint8_t *cards,
                            size_t cards_length, uint16_t module, const uint8_t *expression,
                            size_t expression_length, const uint8_t *levels, size_t levels_length);
@@ -90,8 +90,8 @@ uint32_t rafterclary_expand(const uint8_t *file, size_t file_length, uint8_t *ca
  *     1         the level with all at 0
  *     2         the weights: bit i is set if some taken level of parameter i, others at 0, raises
  *               the level
- *     3 to 10   a mask of levels taken per parameter, byte 3 + i of parameter i: bit l is set if the
- *               parameter at l, others at 0, is not 4
+ *     3 to 10   a mask of levels taken per parameter, byte 3 + i of parameter i: bit l is set if
+ *               the parameter at l, others at 0, is not 4
  *     11 to 14  the pairs, the highest byte first: bit j(j - 1)/2 + i, for i below j, is set if one
  *               at 2 and the other at 3, others at 0, gives 4 though each alone does not
  *     15        zero
@@ -100,8 +100,8 @@ uint32_t rafterclary_expand(const uint8_t *file, size_t file_length, uint8_t *ca
  * mean equal levels whatever levels the parameters have.
  *
  * What follows reads a card and nothing else, and calls nothing of the archive. A definition is one
- * of those that a check replied with; the other numbers may be any: a parameter that is not there is
- * taken at no level, does not weigh and clashes with none. */
+ * of those that a check replied with; the other numbers may be any: a parameter that is not there
+ * is taken at no level, does not weigh and clashes with none. */
 static inline const uint8_t *rafterclary_card(const uint8_t *cards, uint32_t definition) {
     return cards + (size_t)RAFTERCLARY_CARD_BYTES * definition;
 }
@@ -150,8 +150,8 @@ static inline int rafterclary_card_clash_before(const uint8_t *card, const uint8
 /* No level: these are no levels for the card. */
 #define RAFTERCLARY_NO_LEVEL 255u
 
-/* The level with the parameters at the levels given, one byte each: 4 if a level is not taken or two
- * parameters that clash are at 2 and at 3; else the highest of the level with all at 0 and the
+/* The level with the parameters at the levels given, one byte each: 4 if a level is not taken or
+ * two parameters that clash are at 2 and at 3; else the highest of the level with all at 0 and the
  * levels of the parameters that weigh. RAFTERCLARY_NO_LEVEL if the number of levels is not the
  * parameter count, or is above 8, or if a level is above 4. */
 static inline uint32_t rafterclary_card_level(const uint8_t *card, const uint8_t *levels,
