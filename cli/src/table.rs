@@ -62,11 +62,15 @@ fn lines(names: &[String], card: &Card) -> String {
 
 /// How to read the card, as far as it has what is to be read.
 fn rule(card: &Card) -> String {
+    let level = card.level_at_zero();
+    // What is taken at 4 counts nowhere.
+    if (0..card.parameters()).all(|each| card.takes(each, 4)) {
+        return format!("  {level} at all levels\n");
+    }
     let mut text = String::from("  4 at a level that is not taken (-)\n");
     if card.clashes().next().is_some() {
         text.push_str("  4 where of two that clash one is at 2 and the other at 3\n");
     }
-    let level = card.level_at_zero();
     let _ = match (0..card.parameters()).any(|each| card.weighs(each)) {
         true => writeln!(
             text,
@@ -188,6 +192,14 @@ mod tests {
         );
         assert!(
             drawn.contains("(-)\n  else the highest of 0 and the levels of those that weigh\n"),
+            "{drawn}"
+        );
+        let drawn = draw(
+            &names(&["p", "q"]),
+            &card("0201001f1f0000000000000000000000"),
+        );
+        assert!(
+            drawn.contains("\n  q  0 1 2 3 4\n\n  1 at all levels\n\n"),
             "{drawn}"
         );
         let drawn = draw(&names(&["p"]), &card("01040000000000000000000000000000"));
