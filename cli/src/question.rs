@@ -220,8 +220,13 @@ pub fn levels_of(
             }
         };
         let count = parameters.len();
+        let plural = if count == 1 { "" } else { "s" };
         match levels.get_mut(place) {
-            None => return misuse(format!("has {count} parameters, and more levels are given")),
+            None => {
+                return misuse(format!(
+                    "has {count} parameter{plural}, and more levels are given"
+                ));
+            }
             Some(Some(_)) => {
                 let name = &parameters[place];
                 return misuse(format!(

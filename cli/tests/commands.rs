@@ -118,6 +118,10 @@ fn cards_at_levels() {
         assert_eq!((told.status, told.text()), (2, ""), "{levels:?}");
         assert!(told.err.contains(said), "{levels:?}: {}", told.err);
     }
+    let told = run(&["card", "samples/example.bin", "0", "1", "1"]);
+    assert!(told
+        .err
+        .contains("n3 has 1 parameter, and more levels are given"));
     let twice =
         b"---- MODULE M ----\nD(p) == p\n====\n---- MODULE N ----\nI(p) == INSTANCE M\n====\n";
     let told = run_with(&["card", "--as", "text", "-", "I!D", "p=1"], twice);
