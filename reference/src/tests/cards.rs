@@ -291,6 +291,33 @@ fn eight_by_instances() {
     assert_eq!(card(&cards, 2).bytes(), &expected);
 }
 
+/// Cards that differ in one byte, of one parameter and of the last of eight: in the level, the weights, a mask.
+#[test]
+fn likeness_by_each_byte() {
+    for (byte, one, other) in [
+        (1, p(0), and(p(0), x())),
+        (2, and(x(), enabled(p(0))), and(p(0), enabled(p(0)))),
+        (3, always(p(0)), always(x())),
+    ] {
+        let last = |body: &Bytes| {
+            let mut last = body.clone();
+            move_parameter(&mut last, 7);
+            last
+        };
+        let file = file_of(&[(8, last(&one)), (8, last(&other)), (1, one), (1, other)]);
+        let mut lent = cards(&file);
+        for (first, byte) in [(0, if byte < 3 { byte } else { 10 }), (2, byte)] {
+            let [a, b] = [first, first + 1].map(|number| *card(&lent, number).bytes());
+            let differ: Vec<usize> = (0..16).filter(|&at| a[at] != b[at]).collect();
+            assert_eq!(differ, [byte]);
+            let number = first as u32;
+            assert_eq!(alike(&file, &mut lent, number, number + 1), Ok(0));
+            assert_eq!(alike(&file, &mut lent, number + 1, number), Ok(0));
+            assert_eq!(alike(&file, &mut lent, number, number), Ok(1));
+        }
+    }
+}
+
 /// Wrong cards are found: each byte that says something, changed.
 #[test]
 fn wrong_cards_are_found() {
