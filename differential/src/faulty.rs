@@ -83,6 +83,12 @@ pub enum Fault {
     IndexUnmoved,
     /// Alike looks at the levels with parameters at 0 only.
     AlikeAtZero,
+    /// It looks at all but the level with parameters at 0.
+    AlikeButLevel,
+    /// At all but the weights.
+    AlikeButWeights,
+    /// At all but the masks.
+    AlikeButMasks,
     /// A definition is alike itself even if there is none.
     AlikeItself,
     /// The body of a brought definition is empty.
@@ -98,7 +104,7 @@ pub enum Fault {
 }
 
 /// Every fault with its name.
-pub const FAULTS: [(&str, Fault); 87] = [
+pub const FAULTS: [(&str, Fault); 90] = [
     ("place-next", Fault::PlaceNext),
     ("place-of-open-file", Fault::PlaceOfOpenFile),
     ("place-of-eighteen", Fault::PlaceOfEighteen),
@@ -141,6 +147,9 @@ pub const FAULTS: [(&str, Fault); 87] = [
     ("output-past-end", Fault::OutputPastEnd),
     ("index-unmoved", Fault::IndexUnmoved),
     ("alike-at-zero", Fault::AlikeAtZero),
+    ("alike-but-level", Fault::AlikeButLevel),
+    ("alike-but-weights", Fault::AlikeButWeights),
+    ("alike-but-masks", Fault::AlikeButMasks),
     ("alike-itself", Fault::AlikeItself),
     ("brought-body", Fault::BroughtBody),
     ("body-start", Fault::BodyStart),
@@ -533,8 +542,20 @@ impl Queries for Faulty {
         let file = &self.seen(file)[..];
         let accepted = Self::accepts(file, cards);
         let mut reply = Reference.alike(file, cards, a, b);
-        if accepted && refusal(reply).is_none() && self.is(Fault::AlikeAtZero) {
-            let card = |d: u32| &cards[CARD * d as usize..][..2];
+        // Bytes that are left out.
+        let unseen = match self.0 {
+            Fault::AlikeAtZero => 2..CARD,
+            Fault::AlikeButLevel => 1..2,
+            Fault::AlikeButWeights => 2..3,
+            Fault::AlikeButMasks => 3..11,
+            _ => 0..0,
+        };
+        if accepted && refusal(reply).is_none() && !unseen.is_empty() {
+            let card = |d: u32| {
+                let mut card = cards[CARD * d as usize..][..CARD].to_vec();
+                card[unseen.clone()].fill(0);
+                card
+            };
             reply = (card(a) == card(b)) as u32;
         }
         if let Some(spoilt) = self.spoil(file, &before, cards) {

@@ -534,6 +534,31 @@ impl Runner<'_> {
             for _ in 0..3 + random.below(4) {
                 self.query(random, &file, &model, long_way)?;
             }
+            if file.len() <= BOOK {
+                self.nearly_alike(&file, &model)?;
+            }
+        }
+        Some(())
+    }
+
+    /// Asks of definitions whose cards differ in one byte: for each byte the first two of the file.
+    fn nearly_alike(&mut self, file: &[u8], model: &Model) -> Option<()> {
+        let mut asked = [false; CARD];
+        for (first, second) in cards::pairs(model.definitions.len()) {
+            let both = model.card(first).iter().zip(model.card(second));
+            let mut differ = both.enumerate().filter(|(_, (a, b))| a != b);
+            let (Some((byte, _)), None) = (differ.next(), differ.next()) else {
+                continue;
+            };
+            let [a, b] = [first, second].map(|number| number as u32);
+            let call = Call::Alike { a, b };
+            if std::mem::replace(&mut asked[byte], true) || !self.offered(&call) {
+                continue;
+            }
+            let case = Case::new(file, call);
+            let outcome = self.compare(&case)?;
+            self.report.coverage.case(&case, &outcome, None);
+            self.query_by_the_model(&case, &outcome, model)?;
         }
         Some(())
     }
