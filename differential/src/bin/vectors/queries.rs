@@ -491,7 +491,7 @@ fn rules() -> Vec<(&'static str, Call)> {
     ]
 }
 
-/// Likeness where one bit of a card tells, or the parameter count alone.
+/// Likeness where one bit of a card tells.
 fn likeness() -> Vec<(&'static str, Vec<u8>, Call)> {
     let takes = |code| op(code, &[p(0)]);
     let beside = |inner: Expr| and(always(lit(0)), inner);
@@ -533,7 +533,7 @@ fn likeness() -> Vec<(&'static str, Vec<u8>, Call)> {
     ]);
     let ask = |label, a, b| (label, file.clone(), Call::Alike { a, b });
     vec![
-        ask("equal entries, other counts", 0, 1),
+        ask("other counts", 0, 1),
         ask("dropped here or there", 1, 2),
         ask("prime and UNCHANGED", 3, 4),
         ask("prime and ENABLED", 3, 5),
@@ -551,7 +551,7 @@ fn likeness() -> Vec<(&'static str, Vec<u8>, Call)> {
         ask("eight parameters and seven", 16, 17),
         ask("a mask of 15 and one of 7", 18, 19),
         ask("pairs one way round and the other", 19, 20),
-        ask("a pair or none, the same masks", 19, 21),
+        ask("a mask of 15 or of 7, a pair or none", 19, 21),
         ask("weights or none, the same masks", 21, 22),
     ]
 }
