@@ -2,7 +2,7 @@
 
 use crate::limits::Limits;
 
-/// A card. "Byte 0 the parameter count, 1 the level with all at 0, 2 the weights, 3 to 10 a mask of levels
+/// A card: "byte 0 the parameter count, 1 the level with all at 0, 2 the weights, 3 to 10 a mask of levels
 /// taken per parameter, 11 to 14 the pairs (big-endian), 15 zero."
 #[derive(Clone, Copy, Debug, PartialEq, Eq, Hash)]
 pub struct Card([u8; Limits::CARD]);
