@@ -34,7 +34,7 @@ pub record Clamped (bound x r : ℕ) : Type 0 where
 abbrev pub impliedBytes : ℕ
 impliedBytes = 2 + 2 * maxParams
 
--- The string of a term stands at the start of the memory, or there was no room. There is room if the memory has growth for every two bytes of the
+-- The string of a term stands at the start of the memory, or there was no room. There is room if the memory has `growth` bytes for every two of the
 -- file up to `end`.
 pub record Strung (t : Term) (shapes : List ℕ) (end : ℕ) (out : List ℕ) (room : ℕ) (fits : Bool) (len : ℕ) : Type 0 where
   pub spells : Spells (spell (shapesOf shapes) t) out room fits len
