@@ -1,16 +1,10 @@
 /* Reads cards through the header: at every choice of levels what a card says is the level of the
  * body that it is of, and numbers that are none are told. Needs no archive.
  * Exits with the number of the first line that does not hold, 0 if all do. */
+#include "expect.h"
 #include "rafterclary.h"
 
 #include <string.h>
-
-#define EXPECT(fact)                                                                               \
-    do {                                                                                           \
-        if (!(fact)) {                                                                             \
-            return __LINE__;                                                                       \
-        }                                                                                          \
-    } while (0)
 
 /* The join of two levels: a 2 and a 3 make 4. */
 static uint32_t join(uint32_t a, uint32_t b) {

@@ -1,6 +1,7 @@
 /* Calls every function of the archive through the header, on paper 01's example: one definition,
  * p', of its own parameter; and a check on a file that is refused with 21. Exits with the number
  * of the first line that does not hold, 0 if all do. */
+#include "expect.h"
 #include "rafterclary.h"
 
 #include <string.h>
@@ -14,13 +15,6 @@ static const uint8_t mixed[] = {1, 0, 2, 0, 1, 3, 0, 3, 0, 1, 0, 3, 0, 3, 0, 2, 
                                 4, 112, 4, 0, 0, 2, 0, 4, 4, 118, 4, 0};
 static uint8_t cards[RAFTERCLARY_CARD_MEMORY];
 static uint8_t out[RAFTERCLARY_EXPANSION];
-
-#define EXPECT(fact)                                                                               \
-    do {                                                                                           \
-        if (!(fact)) {                                                                             \
-            return __LINE__;                                                                       \
-        }                                                                                          \
-    } while (0)
 
 static int is_refusal(uint32_t reply, uint32_t number, uint32_t place) {
     return RAFTERCLARY_IS_REFUSAL(reply) && RAFTERCLARY_NUMBER(reply) == number &&
