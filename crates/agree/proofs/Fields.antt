@@ -20,7 +20,7 @@ use Rattle.fields.specs.Substitution.{part}
 use Rattle.fields.specs.Payload.{partsOf}
 use Rattle.fields.specs.Cursor.{placeOf, stepAt}
 use Rattle.fields.specs.declared.Cursor.{Cursor}
-use Rattle.fields.specs.declared.Step.{Step}
+use Rattle.fields.specs.declared.FieldStep.{FieldStep}
 use Rattle.fields.specs.declared.Parts.{Parts}
 use Rattle.fields.specs.declared.Parts.the-variants.{Module, Extends, Constant, Variable, Definition, Instance, EndModule, Assume, Theorem, Cut, EndOfFile}
 use Rattle.agree.specs.Parts.{IsField, Reads}
@@ -114,7 +114,7 @@ unfolding stepAt
 reads s c h =
     let at = placeOf c in
     let m = numberAt s (at + 1) in
-    let P : Step → Type 0 = λ x. Reads s at (placeOf (x .next)) (x .parts) in
+    let P : FieldStep → Type 0 = λ x. Reads s at (placeOf (x .next)) (x .parts) in
     cases P (leb (length s) at)
     (λ e. let l = leb-true (length s) at e in (l, drop-of-length-le s l))
     (λ e. let l = leb-false (length s) at e in

@@ -16,7 +16,7 @@ use Rattle.laws.proofs.Expressions.{token-there, token-back}
 use Rattle.rows.specs.Rows.{noCode, arityOf}
 use Rattle.tokens.specs.Token.{tokenAt, taggedAt, numberAt, isToken, widthOf, argumentsOf}
 use Rattle.tokens.specs.Expr.{spell}
-use Rattle.tokens.specs.declared.Token.{Token as Placed}
+use Rattle.tokens.specs.declared.Token.{Token as FileToken}
 use Rattle.tokens.specs.declared.Token.the-variants.{Parameter, Bound, Name, InstanceOperator, BuiltIn, Literal, NoToken}
 use Rattle.tokens.proofs.Places.{cases, never}
 use Rattle.tokens.proofs.Writing.{Bytes, spelled}
@@ -55,7 +55,7 @@ args-placed (instance-operator i f k) h = refl
 args-placed (built-in c) h = code-known c (h .1) .1
 args-placed (numeral v) h = refl
 
-pub spell-as : (t : Placed) (r : List ℕ) → isToken t ≡ true → spell t r ≡ writeToken (asToken t) ++ r
+pub spell-as : (t : FileToken) (r : List ℕ) → isToken t ≡ true → spell t r ≡ writeToken (asToken t) ++ r
 spell-as (Parameter i) r h = refl
 spell-as (Bound j) r h = refl
 spell-as (Name n k) r h = refl
@@ -65,7 +65,7 @@ spell-as (Literal v) r h = refl
 spell-as NoToken r h = never h
 
 -- what is placed fits, and takes as many arguments
-abbrev Good : Placed → Type 0
+abbrev Good : FileToken → Type 0
 Good t = isToken t ≡ true → TokenFits (asToken t) × (tokenArity (asToken t) ≡ argumentsOf t)
 
 two-small : (s : List ℕ) (i : ℕ) → Bytes s → numberAt s i < 65536

@@ -41,7 +41,8 @@ use Rattle.texts.specs.Noted.{isName}
 use Rattle.texts.specs.Text.{Declarations, noDeclaration, refHead}
 use Rattle.forms.specs.Forms.{levelAt}
 use Rattle.context.specs.Holds.{moduleNo}
-use Rattle.context.specs.Store.{Store, codesOf}
+use Rattle.context.specs.Entries.{codesOf}
+use Rattle.store.specs.Store.{Store}
 use Rattle.context.specs.declared.Counts.{Counts}
 use Rattle.resolve.specs.Look.{lookIn}
 use Rattle.resolve.specs.Meaning.{Means}
@@ -131,8 +132,8 @@ limit-law expr e q =
     go false = refl
 
 -- Module q is ended; the bytes spell the expression e, which keeps the limits, and which was walked with n parameters.
-module _ (file : List ℕ) (fs : List Field) (s : State) (rs : List Row) (v : Store) (c : Counts) (p : Phase) (refs words declared′ : List ℕ)
-    (stands : Standing file fs s rs v c p refs words declared′) (q : ℕ) (ended : q < c .modules) (expr : List ℕ) (bytes : Bytes expr) (e : Expression)
+module _ (file : List ℕ) (fs : List Field) (s : State) (rs : List Row) (v : Store) (c : Counts) (p : Phase) (refs words : List ℕ)
+    (stands : Standing file fs s rs v c p refs words) (q : ℕ) (ended : q < c .modules) (expr : List ℕ) (bytes : Bytes expr) (e : Expression)
     (spelt : expression .read expr ≡ some e) (kept : overLimit e ≡ false) (n r : ℕ)
     (asked : NamesAsked (v .names) (v .facts) (codesOf v q) n (exprAt maxNesting expr 0) r) where
   abbrev decls : Declarations

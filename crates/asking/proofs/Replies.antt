@@ -31,7 +31,8 @@ use Rattle.resolve.specs.Walk.{unknownIn}
 use Rattle.levels.specs.Walk.{TextForm}
 use Rattle.context.specs.Holds.{Holds, moduleNo}
 use Rattle.context.specs.Parts.{part, placeOf}
-use Rattle.context.specs.Store.{Store, contextCodes, store}
+use Rattle.context.specs.Entries.{contextCodes}
+use Rattle.store.specs.Store.{Store}
 use Rattle.context.specs.declared.Counts.{Counts}
 use Rattle.context.proofs.Lookups.{module-law}
 use Rattle.worlds.specs.Rows.{Row}
@@ -180,7 +181,19 @@ module _ (levels expr : List ℕ) where
   bytes-left z = let f = few-right z in rw (f .0, f .1) refl
 
 -- The reply in a module m that is ended.
-module _ (names facts contexts heads words : List ℕ) (m fields : ℕ) (levels expr : List ℕ) (bytes : Bytes expr) where
+module _ (v : Store) (words : List ℕ) (m fields : ℕ) (levels expr : List ℕ) (bytes : Bytes expr) where
+  abbrev names : List ℕ
+  names = v .names
+
+  abbrev facts : List ℕ
+  facts = v .facts
+
+  abbrev contexts : List ℕ
+  contexts = v .contexts
+
+  abbrev heads : List ℕ
+  heads = v .heads
+
   abbrev End : State → Term → Outcome ℕ
   End s t = result (levelOf s levels t)
 
@@ -189,8 +202,8 @@ module _ (names facts contexts heads words : List ℕ) (m fields : ℕ) (levels 
   as-read s o e = ap (λ (o : Option Expression). andThen (readIn s (moduleNo s m) levels (length levels) o) (End s)) (sym e)
 
   -- 3 and 5
-  reply-reading : (r : ℕ) → r ≡ readingCause levels expr → (r ≡ 0 → ⊥) → AsksIn names facts contexts heads words m fields levels expr (Refused r fields)
-  reply-reading r is-r h = record { reply = λ file fs s rs c p orders refs declared stands ended e. go s (e ∙ stands .holds .fields) (wholeOf expr) refl }
+  reply-reading : (r : ℕ) → r ≡ readingCause levels expr → (r ≡ 0 → ⊥) → AsksIn v words m fields levels expr (Refused r fields)
+  reply-reading r is-r h = record { reply = λ file fs s rs c p refs stands ended e. go s (e ∙ stands .holds .fields) (wholeOf expr) refl }
     where
       go : (s : State) → fields ≡ s .fields → (b : Bool) → wholeOf expr ≡ b
           → refusal r fields ≡ andThen (readIn s (moduleNo s m) levels (length levels) (expression .read expr)) (End s)
@@ -214,20 +227,20 @@ module _ (names facts contexts heads words : List ℕ) (m fields : ℕ) (levels 
     causes : (any (λ l. leb levelCount l) levels ≡ false) × (overArity (length levels) ≡ false) × (overLimit (spelt .0) ≡ false)
     causes = none-of-three (any (λ l. leb levelCount l) levels) (overArity (length levels)) (overLimit (spelt .0)) (spelt .2)
 
-    names-law : (file : List ℕ) (fs : List Field) (s : State) (rs : List Row) (c : Counts) (p : Phase) (orders refs declared : List ℕ)
-        → Standing file fs s rs (store names facts contexts orders heads) c p refs words declared → m < c .modules
+    names-law : (file : List ℕ) (fs : List Field) (s : State) (rs : List Row) (c : Counts) (p : Phase) (refs : List ℕ)
+        → Standing file fs s rs v c p refs words → m < c .modules
         → k ≡ two (unknown s (moduleNo s m .context) (length levels) (spelt .0)) (miscounted s (moduleNo s m .context) (spelt .0))
     unfolding nameCause
-    names-law file fs s rs c p orders refs declared stands ended =
-        let right = asked-right file fs s rs (store names facts contexts orders heads) c p refs words declared stands m ended expr bytes (spelt .0) (spelt .1)
+    names-law file fs s rs c p refs stands ended =
+        let right = asked-right file fs s rs v c p refs words stands m ended expr bytes (spelt .0) (spelt .1)
         (causes .2) (length levels) k asked in
         asked .cause ∙ ap₂ two (right .cause-9) (right .cause-10)
 
     -- 9 and 10
-    reply-names : (k ≡ 0 → ⊥) → AsksIn names facts contexts heads words m fields levels expr (Refused k fields)
+    reply-names : (k ≡ 0 → ⊥) → AsksIn v words m fields levels expr (Refused k fields)
     reply-names h = record {
-      reply = λ file fs s rs c p orders refs declared stands ended f.
-          let law = names-law file fs s rs c p orders refs declared stands ended in
+      reply = λ file fs s rs c p refs stands ended f.
+          let law = names-law file fs s rs c p refs stands ended in
           ap₂ refusal law (f ∙ stands .holds .fields)
           ∙ last-two (any (λ l. leb levelCount l) levels) (overArity (length levels)) (overLimit (spelt .0))
           (unknown s (moduleNo s m .context) (length levels) (spelt .0)) (miscounted s (moduleNo s m .context) (spelt .0)) (s .fields)
@@ -244,21 +257,21 @@ module _ (names facts contexts heads words : List ℕ) (m fields : ℕ) (levels 
 
     -- the level
     reply-level : k ≡ 0 → (form : ℕ) → TextForm (namesIn names facts (contextCodes contexts heads m) words expr) expr 0 form
-        → AsksIn names facts contexts heads words m fields levels expr (Level (levelAt form levels))
+        → AsksIn v words m fields levels expr (Level (levelAt form levels))
     reply-level z form shown = record {
-      reply = λ file fs s rs c p orders refs declared stands ended _.
+      reply = λ file fs s rs c p refs stands ended _.
           let a = answers z in
-          let law = asked-level file fs s rs (store names facts contexts orders heads) c p refs words declared stands m ended expr bytes (spelt .0) (spelt .1)
+          let law = asked-level file fs s rs v c p refs words stands m ended expr bytes (spelt .0) (spelt .1)
           (causes .2) (length levels) k asked (a .0) (a .1) levels form shown refl few-levels (are-levels levels expr bytes (causes .0)) in
           ap result law
           ∙ none-at-all (any (λ l. leb levelCount l) levels) (overArity (length levels)) (overLimit (spelt .0))
           (unknown s (moduleNo s m .context) (length levels) (spelt .0)) (miscounted s (moduleNo s m .context) (spelt .0)) (s .fields)
-          (resolve s (moduleNo s m .context) (spelt .0)) (End s) (spelt .2) (sym (names-law file fs s rs c p orders refs declared stands ended) ∙ z)
+          (resolve s (moduleNo s m .context) (spelt .0)) (End s) (spelt .2) (sym (names-law file fs s rs c p refs stands ended) ∙ z)
           ∙ as-read s (some (spelt .0)) (spelt .1);
     }
 
   -- by the levels alone
-  pub reply-levels : (r : ℕ) → r ≡ levelsCause levels expr → (r ≡ 0 → ⊥) → AsksIn names facts contexts heads words m fields levels expr (Refused r fields)
+  pub reply-levels : (r : ℕ) → r ≡ levelsCause levels expr → (r ≡ 0 → ⊥) → AsksIn v words m fields levels expr (Refused r fields)
   reply-levels r is-r h = reply-reading r (is-r ∙ sym (levels-tell levels expr (λ z. h (is-r ∙ z)))) h
 
   module _ (clear : levelsCause levels expr ≡ 0) (w : Walked) (judged : Judged names facts (contextCodes contexts heads m) words (length levels) expr w) where
@@ -284,12 +297,12 @@ module _ (names facts contexts heads words : List ℕ) (m fields : ℕ) (levels 
         → NamesAsked names facts (contextCodes contexts heads m) (length levels) (exprAt maxNesting expr 0) k
     asked kept k e = names-asked names facts (contextCodes contexts heads m) words (length levels) expr w judged kept k e
 
-    reply-all-kept : w .kept ≡ true → readingCause levels expr ≡ 0 → AsksIn names facts contexts heads words m fields levels expr (keptReply levels w fields)
+    reply-all-kept : w .kept ≡ true → readingCause levels expr ≡ 0 → AsksIn v words m fields levels expr (keptReply levels w fields)
     unfolding keptReply nameCause
     reply-all-kept k z = go (w .looked .unknown) refl (w .looked .miscounted) refl
       where
         go : (u : Bool) → w .looked .unknown ≡ u → (d : Bool) → w .looked .miscounted ≡ d
-            → AsksIn names facts contexts heads words m fields levels expr (cond u (Refused 9 fields) (cond d (Refused 10 fields) (Level (levelAt (w .form) levels))))
+            → AsksIn v words m fields levels expr (cond u (Refused 9 fields) (cond d (Refused 10 fields) (Level (levelAt (w .form) levels))))
         go true eu d ed = reply-names z 9 (asked k 9 (rw eu refl)) (λ z. omega arith)
         go false eu true ed = reply-names z 10 (asked k 10 (rw (eu, ed) refl)) (λ z. omega arith)
         go false eu false ed =
@@ -303,32 +316,32 @@ module _ (names facts contexts heads words : List ℕ) (m fields : ℕ) (levels 
         go true h = omega arith
         go false h = omega arith
 
-    pub reply-walked : (r : Asked) → r ≡ replyOf levels expr w fields → AsksIn names facts contexts heads words m fields levels expr r
+    pub reply-walked : (r : Asked) → r ≡ replyOf levels expr w fields → AsksIn v words m fields levels expr r
     unfolding replyOf
-    reply-walked r q = subst (AsksIn names facts contexts heads words m fields levels expr) (sym q) (go (w .kept) refl (eqb (w .looked .next) (length expr)) refl)
+    reply-walked r q = subst (AsksIn v words m fields levels expr) (sym q) (go (w .kept) refl (eqb (w .looked .next) (length expr)) refl)
       where
         go : (a : Bool) → w .kept ≡ a → (b : Bool) → eqb (w .looked .next) (length expr) ≡ b
-            → AsksIn names facts contexts heads words m fields levels expr (cond a (cond b (keptReply levels w fields) (Refused 3 fields)) (Refused (limitCause expr) fields))
+            → AsksIn v words m fields levels expr (cond a (cond b (keptReply levels w fields) (Refused 3 fields)) (Refused (limitCause expr) fields))
         go false k b e = reply-reading (limitCause expr) (sym (reading-passed k)) some-cause
         go true k true e = reply-all-kept k (reading-kept k ∙ rw e refl)
         go true k false e = reply-reading 3 (sym (reading-kept k ∙ rw e refl)) (λ z. omega arith)
 
 -- The reply by a module's name n.
-module _ (names facts contexts heads words : List ℕ) (c : Counts) (n : ℕ) (levels expr : List ℕ) (q : ℕ) (place : q ≡ placeOf n (part heads 0 (c .modules))) where
+module _ (v : Store) (words : List ℕ) (c : Counts) (n : ℕ) (levels expr : List ℕ) (q : ℕ) (place : q ≡ placeOf n (part (v .heads) 0 (c .modules))) where
   -- 17
-  pub reply-no-module : c .modules ≤ q → Asks names facts contexts heads words c n levels expr (Refused 17 0)
+  pub reply-no-module : c .modules ≤ q → Asks v words c n levels expr (Refused 17 0)
   reply-no-module h = record {
-    reply = λ file fs s rs p orders refs declared stands.
+    reply = λ file fs s rs p refs stands.
         ap (λ (o : Option Module). andThen (andThen (orNoSuch o) (λ M. readIn s M levels (length levels) (expression .read expr))) (λ t. result (levelOf s levels t)))
-        (sym (no-module (store names facts contexts orders heads) c s (stands .holds) n q place h));
+        (sym (no-module v c s (stands .holds) n q place h));
   }
 
   -- the reply in the module found
-  pub reply-there : (r : Asked) → q < c .modules → AsksIn names facts contexts heads words q (c .fields) levels expr r
-      → Asks names facts contexts heads words c n levels expr r
+  pub reply-there : (r : Asked) → q < c .modules → AsksIn v words q (c .fields) levels expr r
+      → Asks v words c n levels expr r
   reply-there r ended a = record {
-    reply = λ file fs s rs p orders refs declared stands.
-        a .reply file fs s rs c p orders refs declared stands ended refl
+    reply = λ file fs s rs p refs stands.
+        a .reply file fs s rs c p refs stands ended refl
         ∙ ap (λ (o : Option Module). andThen (andThen (orNoSuch o) (λ M. readIn s M levels (length levels) (expression .read expr))) (λ t. result (levelOf s levels t)))
-        (sym (found-module (store names facts contexts orders heads) c s (stands .holds) n q place ended));
+        (sym (found-module v c s (stands .holds) n q place ended));
   }

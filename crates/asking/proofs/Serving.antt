@@ -6,7 +6,7 @@ use native.Mathlib.Omega.{arith}
 use lib.ListN.{getD}
 use Rattle.limits.specs.Sizes.{contextLength, placeCount}
 use Rattle.context.specs.Parts.{part}
-use Rattle.context.specs.Store.{contextCodes}
+use Rattle.context.specs.Entries.{contextCodes}
 use Rattle.asking.specs.Walk.{Judged}
 use Rattle.asking.specs.declared.Walked.{Walked}
 

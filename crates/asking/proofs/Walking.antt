@@ -56,18 +56,18 @@ module _ (names facts cs words : List ℕ) (p : ℕ) (s : List ℕ) (at count ne
   abbrev Answer : Walked → Type 0
   Answer w = AllJudged names facts cs words p s u start (several (exprAt nesting s) at count) w
 
-  abbrev Left : Looked → ℕ → ℕ → ℕ → Scope → Scope → ℕ → ℕ → Type 0
-  Left a form k nest outer last label labels = Going names facts cs words p s at count nesting u start a form k nest outer last label labels
+  abbrev GoingHere : Looked → ℕ → ℕ → ℕ → Scope → Scope → ℕ → ℕ → Type 0
+  GoingHere a form k nest outer last label labels = Going names facts cs words p s at count nesting u start a form k nest outer last label labels
 
   pub going-start : (a : Looked) → (a .next ≡ at) × (a .unknown ≡ false) × (a .miscounted ≡ false) → count ≤ maxArity → Roomy nesting u
-      → Left a start count nesting (u .around) (u .within) (u .label) (u .labels)
+      → GoingHere a start count nesting (u .around) (u .within) (u .label) (u .labels)
   going-start a h few r = record {
     causes = along.going-start names facts cs p s at count nesting (u .around .bound) (u .within .bound) a h few (r .around) (r .within);
     level = subst (λ (i : ℕ). down.Going N s at count nesting (levelUnder u) start start i count nesting (u .around .bits) (u .within .bits) (u .label) (u .labels)) (sym (h .0))
         (down.going-start N s at count nesting (levelUnder u) start (r .bits));
   }
 
-  module _ (a : Looked) (form k nest : ℕ) (outer last : Scope) (label labels : ℕ) (inv : Left a form k nest outer last label labels) where
+  module _ (a : Looked) (form k nest : ℕ) (outer last : Scope) (label labels : ℕ) (inv : GoingHere a form k nest outer last label labels) where
     stopped : (w : Walked) → w .kept ≡ false
         → causes.SkimsAll names facts cs p (u .around .bound) (u .within .bound) (several (exprAt nesting s) at count) (w .kept) (w .looked) → Answer w
     stopped w z h = record { causes = h; level = λ k. never (sym z ∙ k) }
@@ -115,7 +115,7 @@ module _ (names facts cs words : List ℕ) (p : ℕ) (s : List ℕ) (at count ne
               }
 
           -- an argument that has none itself
-          pub going-leaf : t .count ≡ 0 → Left (t .looked) (t .form) (k - 1) nest outer last label (labels / 8)
+          pub going-leaf : t .count ≡ 0 → GoingHere (t .looked) (t .form) (k - 1) nest outer last label (labels / 8)
           going-leaf z = record {
             causes = along.going-leaf names facts cs p s at count nesting (u .around .bound) (u .within .bound) a k nest (outer .bound) (last .bound) (inv .causes) some (e .bound)
                 (bound-under k outer last e ee) (causesOf t) (steps .causes) there more z;
@@ -124,7 +124,7 @@ module _ (names facts cs words : List ℕ) (p : ℕ) (s : List ℕ) (at count ne
           }
 
           -- the last argument: what is left is its arguments
-          pub going-inside : k ≡ 1 → Left (t .looked) (t .form) (t .count) (nest - 1) e (t .inner) d (t .labels)
+          pub going-inside : k ≡ 1 → GoingHere (t .looked) (t .form) (t .count) (nest - 1) e (t .inner) d (t .labels)
           going-inside z = record {
             causes = along.going-inside names facts cs p s at count nesting (u .around .bound) (u .within .bound) a k nest (outer .bound) (last .bound) (inv .causes) some (e .bound)
                 (bound-under k outer last e ee) (causesOf t) (steps .causes) there more z;
@@ -143,7 +143,7 @@ module _ (names facts cs words : List ℕ) (p : ℕ) (s : List ℕ) (at count ne
 
             pub going-on : b .kept ≡ true → (x : Looked)
                 → (x .next ≡ b .looked .next) × (x .unknown ≡ (t .looked .unknown || b .looked .unknown)) × (x .miscounted ≡ (t .looked .miscounted || b .looked .miscounted))
-                → Left x (b .form) (k - 1) nest outer last label (labels / 8)
+                → GoingHere x (b .form) (k - 1) nest outer last label (labels / 8)
             going-on z x h = record {
               causes = along.going-on names facts cs p s at count nesting (u .around .bound) (u .within .bound) a k nest (outer .bound) (last .bound) (inv .causes) some (e .bound)
                   (bound-under k outer last e ee) (causesOf t) (steps .causes) there more (skimmed b) (args .causes) z x h;

@@ -5,6 +5,7 @@ use mathlib.Core.Path.{_≡_}
 use Prim.Native.Nat.{ℕ, _<_}
 use lib.Dec.{eqb, leb, ltb}
 use lib.ListN.{length}
+use Rattle.store.specs.Store.{Store}
 use Rattle.limits.specs.Limits.{levelCount, maxArity}
 use Rattle.theory.specs.Lists.{any}
 use Rattle.rules.specs.Expression.{expression}
@@ -15,7 +16,6 @@ use Rattle.rules.specs.State.{State, levelOf}
 use Rattle.tokens.specs.Expr.{Found, wholeOf}
 use Rattle.forms.specs.Forms.{levelAt}
 use Rattle.context.specs.Holds.{moduleNo}
-use Rattle.context.specs.Store.{store}
 use Rattle.context.specs.declared.Counts.{Counts}
 use Rattle.resolve.specs.Walk.{Looks}
 use Rattle.worlds.specs.Rows.{Row}
@@ -58,13 +58,13 @@ replyOf levels expr w fields =
     cond (w .kept) (cond (eqb (w .looked .next) (length expr)) (keptReply levels w fields) (Refused 3 fields)) (Refused (limitCause expr) fields)
 
 -- The reply in module m is the rules', if the arrays show a state in which it is ended, and that many fields are read.
-pub record AsksIn (names facts contexts heads words : List ℕ) (m fields : ℕ) (levels expr : List ℕ) (r : Asked) : Type 0 where
-  pub reply : (file : List ℕ) (fs : List Field) (s : State) (rs : List Row) (c : Counts) (p : Phase) (orders refs declared : List ℕ)
-      → Standing file fs s rs (store names facts contexts orders heads) c p refs words declared → m < c .modules → fields ≡ c .fields
+pub record AsksIn (v : Store) (words : List ℕ) (m fields : ℕ) (levels expr : List ℕ) (r : Asked) : Type 0 where
+  pub reply : (file : List ℕ) (fs : List Field) (s : State) (rs : List Row) (c : Counts) (p : Phase) (refs : List ℕ)
+      → Standing file fs s rs v c p refs words → m < c .modules → fields ≡ c .fields
       → outcomeOf r ≡ andThen (readIn s (moduleNo s m) levels (length levels) (expression .read expr)) (λ t. result (levelOf s levels t))
 
 -- The reply is the rules', if the arrays and counts show a state that some fields lead to.
-pub record Asks (names facts contexts heads words : List ℕ) (c : Counts) (m : ℕ) (levels expr : List ℕ) (r : Asked) : Type 0 where
-  pub reply : (file : List ℕ) (fs : List Field) (s : State) (rs : List Row) (p : Phase) (orders refs declared : List ℕ)
-      → Standing file fs s rs (store names facts contexts orders heads) c p refs words declared
+pub record Asks (v : Store) (words : List ℕ) (c : Counts) (m : ℕ) (levels expr : List ℕ) (r : Asked) : Type 0 where
+  pub reply : (file : List ℕ) (fs : List Field) (s : State) (rs : List Row) (p : Phase) (refs : List ℕ)
+      → Standing file fs s rs v c p refs words
       → outcomeOf r ≡ levelReply m levels expr s

@@ -8,8 +8,8 @@ ghost use mathlib.Core.Path.{_≡_};
 ghost use Prim.Native.Nat.{_≤_};
 ghost use lib.ListN.{length};
 ghost use Rattle.limits.specs.Limits.{maxModules};
-ghost use Rattle.levels.specs.Tables.{tableWords};
 ghost use Rattle.asking.specs.Asks.{Asks, AsksIn, keptReply, levelsCause, replyOf};
+ghost use Rattle.store.specs.Store.{held};
 use crate::reading::levels_cause;
 use crate::reading::limit_cause;
 use crate::walk::judge;
@@ -17,6 +17,8 @@ use context::Counts;
 use context::lookup::find_module;
 use forms::levels::level;
 use resolve::Looked;
+use store::Lent;
+use store::Store;
 
 // The reply: a level, 0 to 4; or the cause of a refusal and its place.
 pub enum Asked {
@@ -62,18 +64,15 @@ fn reply_of(expr: &[u8], levels: &[u8], w: Walked, fields: usize) -> Asked
 fn walked_reply(
     expr: &[u8],
     levels: &[u8],
-    names: &[u16],
-    facts: &[u16],
-    contexts: &[u16],
-    heads: &[u16],
-    words: &[u64],
+    store: &[u16; Store::LENGTH],
+    words: &[u64; Lent::WORDS],
     m: usize,
     fields: usize,
 ) -> Asked
     requires { ⌜ (m ≤ maxModules) × (levelsCause (now levels) (now expr) ≡ 0) ⌝ }
-    ensures { λ r. ⌜ AsksIn (now (names .entry)) (now (facts .entry)) (now (contexts .entry)) (now (heads .entry)) (now (words .entry)) m fields (now (levels .entry)) (now (expr .entry)) r ⌝ }
+    ensures { λ r. ⌜ AsksIn (held (now (store .entry))) (now (words .entry)) m fields (now (levels .entry)) (now (expr .entry)) r ⌝ }
 {
-    let w = judge(expr, contexts, names, facts, heads, words, m, levels.len());
+    let w = judge(expr, store, words, m, levels.len());
     reply_of(expr, levels, w, fields)
 }
 
@@ -81,32 +80,19 @@ fn walked_reply(
 fn reply_in(
     expr: &[u8],
     levels: &[u8],
-    names: &[u16],
-    facts: &[u16],
-    contexts: &[u16],
-    heads: &[u16],
-    words: &[u64],
+    store: &[u16; Store::LENGTH],
+    words: &[u64; Lent::WORDS],
     m: usize,
     fields: usize,
 ) -> Asked
     requires { ⌜ m ≤ maxModules ⌝ }
-    ensures { λ r. ⌜ AsksIn (now (names .entry)) (now (facts .entry)) (now (contexts .entry)) (now (heads .entry)) (now (words .entry)) m fields (now (levels .entry)) (now (expr .entry)) r ⌝ }
+    ensures { λ r. ⌜ AsksIn (held (now (store .entry))) (now (words .entry)) m fields (now (levels .entry)) (now (expr .entry)) r ⌝ }
 {
     let cause = levels_cause(expr, levels);
     if cause != 0 {
         return Asked::Refused(cause, fields);
     }
-    walked_reply(
-        expr,
-        levels,
-        names,
-        facts,
-        contexts,
-        heads,
-        words,
-        m,
-        fields,
-    )
+    walked_reply(expr, levels, store, words, m, fields)
 }
 
 // The level of the expression at the end of the module of that name, a level being given for each of its parameters. The arrays are those
@@ -115,29 +101,16 @@ pub fn level_reply(
     expr: &[u8],
     levels: &[u8],
     module: u16,
-    names: &[u16],
-    facts: &[u16],
-    contexts: &[u16],
-    heads: &[u16],
-    words: &[u64],
+    store: &[u16; Store::LENGTH],
+    words: &[u64; Lent::WORDS],
     c: Counts,
 ) -> Asked
-    requires { ⌜ (c .modules ≤ maxModules) × (length (now words) ≡ tableWords) ⌝ }
-    ensures { λ r. ⌜ Asks (now (names .entry)) (now (facts .entry)) (now (contexts .entry)) (now (heads .entry)) (now (words .entry)) c «module» (now (levels .entry)) (now (expr .entry)) r ⌝ }
+    requires { ⌜ c .modules ≤ maxModules ⌝ }
+    ensures { λ r. ⌜ Asks (held (now (store .entry))) (now (words .entry)) c «module» (now (levels .entry)) (now (expr .entry)) r ⌝ }
 {
-    let q = find_module(heads, c.modules, module);
+    let q = find_module(store, c.modules, module);
     if c.modules <= q {
         return Asked::Refused(17, 0);
     }
-    reply_in(
-        expr,
-        levels,
-        names,
-        facts,
-        contexts,
-        heads,
-        words,
-        q,
-        c.fields,
-    )
+    reply_in(expr, levels, store, words, q, c.fields)
 }

@@ -7,6 +7,7 @@ ghost use Rattle.context.specs.Parts.{part};
 ghost use Rattle.resolve.specs.Walk.{miscountedAt, unknownAt, wordCount};
 ghost use Rattle.tables.specs.Serves.{Serves};
 ghost use Rattle.asking.specs.Walk.{Beside, CodeAt, NamedBy, Over, ParameterAt, Steps, Told};
+ghost use Rattle.store.specs.Store.{held};
 use levels::names::form_at;
 use levels::steps::bound_step;
 use levels::steps::built_in_step;
@@ -20,8 +21,10 @@ use resolve::Looked;
 use resolve::steps::both;
 use resolve::steps::number_of;
 use resolve::steps::with_args;
-use skimming::Place;
+use skimming::ContextAt;
 use skimming::bound_inside;
+use store::Lent;
+use store::Store;
 use tables::names::look;
 use tables::token::arguments_in;
 use tables::token::token_in;
@@ -31,6 +34,14 @@ use tokens::Token;
 pub struct Scope {
     pub bits: u64,
     pub bound: usize,
+}
+
+// What is known where a token stands: the variables bound around it, the label of its place, the form so far, and what its names come to so far.
+pub struct Reached {
+    pub scope: Scope,
+    pub label: u8,
+    pub form: u64,
+    pub looked: Looked,
 }
 
 // Whether a token keeps the limits; if it does, how many arguments follow and the labels that it gives them, the variables bound in the last of
@@ -94,7 +105,7 @@ fn known(t: Token, l: Look, params: usize, bound: usize, a: Looked, next: usize)
 
 // A name that means what l says.
 fn name_step(
-    words: &[u64],
+    words: &[u64; Lent::WORDS],
     l: Look,
     count: u8,
     bits: u64,
@@ -111,7 +122,7 @@ fn name_step(
 
 // A token that means what l says, if it is a name.
 fn token_step(
-    words: &[u64],
+    words: &[u64; Lent::WORDS],
     column: &[u16],
     t: Token,
     l: Look,
@@ -137,74 +148,48 @@ fn token_step(
 // A token that keeps the limits.
 fn over(
     column: &[u16],
-    table: &[u8],
-    nexts: &[u8],
-    contexts: &[u16],
-    names: &[u16],
-    facts: &[u16],
-    words: &[u64],
-    p: Place,
-    e: Scope,
-    label: u8,
-    form: u64,
-    a: Looked,
+    tables: &[u8],
+    store: &[u16; Store::LENGTH],
+    words: &[u64; Lent::WORDS],
+    p: ContextAt,
+    x: Reached,
     t: Token,
     next: usize,
 ) -> Step
-    requires { ⌜ Serves (now names) (now contexts) (now column) (now table) (now nexts) (p .from) (p .end) × (e .bits < 2 ^ 63) × (e .bound < wordCount) × (label < 8) ⌝ }
-    ensures { λ r. ⌜ Over (now (names .entry)) (now (facts .entry)) (part (now (contexts .entry)) (p .from) (p .end - p .from)) (now (words .entry)) (p .params) t e label form a next r ⌝ }
+    requires { ⌜ (now column ≡ rowColumn) × Serves (held (now store)) (now tables) (p .from) (p .end) × (x .scope .bits < 2 ^ 63) × (x .scope .bound < wordCount) × (x .label < 8) ⌝ }
+    ensures { λ r. ⌜ Over (held (now (store .entry)) .names) (held (now (store .entry)) .facts) (part (held (now (store .entry)) .contexts) (p .from) (p .end - p .from)) (now (words .entry)) (p .params) t (x .scope) (x .label) (x .form) (x .looked) next r ⌝ }
 {
+    let e = x.scope;
     let bound = bound_inside(column, t, e.bound);
-    let l = look(names, facts, contexts, table, nexts, p.from, p.end, t);
-    let x = token_step(words, column, t, l, e.bits, label, form, next);
-    let b = known(t, l, p.params, e.bound, a, next);
-    beside(x, bound, b)
+    let l = look(store, tables, p.from, p.end, t);
+    let y = token_step(words, column, t, l, e.bits, x.label, x.form, next);
+    let b = known(t, l, p.params, e.bound, x.looked, next);
+    beside(y, bound, b)
 }
 
 // The token at the position that is reached, of whatever kind.
 fn any_step(
     s: &[u8],
     column: &[u16],
-    table: &[u8],
-    nexts: &[u8],
-    contexts: &[u16],
-    names: &[u16],
-    facts: &[u16],
-    words: &[u64],
-    p: Place,
-    e: Scope,
-    label: u8,
-    form: u64,
-    a: Looked,
+    tables: &[u8],
+    store: &[u16; Store::LENGTH],
+    words: &[u64; Lent::WORDS],
+    p: ContextAt,
+    x: Reached,
 ) -> Step
-    requires { ⌜ Serves (now names) (now contexts) (now column) (now table) (now nexts) (p .from) (p .end) × (e .bits < 2 ^ 63) × (e .bound < wordCount) × (label < 8) ⌝ }
-    ensures { λ r. ⌜ Steps (now (names .entry)) (now (facts .entry)) (part (now (contexts .entry)) (p .from) (p .end - p .from)) (now (words .entry)) (p .params) (now (s .entry)) e label form a r ⌝ }
+    requires { ⌜ (now column ≡ rowColumn) × Serves (held (now store)) (now tables) (p .from) (p .end) × (x .scope .bits < 2 ^ 63) × (x .scope .bound < wordCount) × (x .label < 8) ⌝ }
+    ensures { λ r. ⌜ Steps (held (now (store .entry)) .names) (held (now (store .entry)) .facts) (part (held (now (store .entry)) .contexts) (p .from) (p .end - p .from)) (now (words .entry)) (p .params) (now (s .entry)) (x .scope) (x .label) (x .form) (x .looked) r ⌝ }
 {
-    let at = a.next;
+    let at = x.looked.next;
     let t = token_in(s, column, at);
     if tokens::is_token(t) {
         if (Limits::ARITY as u8) < arguments_in(column, t) {
-            return no_step(e, form, a);
+            return no_step(x.scope, x.form, x.looked);
         }
         let next = at + tokens::width(t);
-        return over(
-            column,
-            table,
-            nexts,
-            contexts,
-            names,
-            facts,
-            words,
-            p,
-            e,
-            label,
-            form,
-            a,
-            t,
-            next,
-        );
+        return over(column, tables, store, words, p, x, t, next);
     }
-    no_step(e, form, a)
+    no_step(x.scope, x.form, x.looked)
 }
 
 // A parameter.
@@ -250,47 +235,27 @@ fn code_at(column: &[u16], code: u8, e: Scope, label: u8, form: u64, a: Looked, 
 pub fn next_step(
     s: &[u8],
     column: &[u16],
-    table: &[u8],
-    nexts: &[u8],
-    contexts: &[u16],
-    names: &[u16],
-    facts: &[u16],
-    words: &[u64],
-    p: Place,
-    e: Scope,
-    label: u8,
-    form: u64,
-    a: Looked,
+    tables: &[u8],
+    store: &[u16; Store::LENGTH],
+    words: &[u64; Lent::WORDS],
+    p: ContextAt,
+    x: Reached,
 ) -> Step
-    requires { ⌜ Serves (now names) (now contexts) (now column) (now table) (now nexts) (p .from) (p .end) × (e .bits < 2 ^ 63) × (e .bound < wordCount) × (label < 8) ⌝ }
-    ensures { λ r. ⌜ Steps (now (names .entry)) (now (facts .entry)) (part (now (contexts .entry)) (p .from) (p .end - p .from)) (now (words .entry)) (p .params) (now (s .entry)) e label form a r ⌝ }
+    requires { ⌜ (now column ≡ rowColumn) × Serves (held (now store)) (now tables) (p .from) (p .end) × (x .scope .bits < 2 ^ 63) × (x .scope .bound < wordCount) × (x .label < 8) ⌝ }
+    ensures { λ r. ⌜ Steps (held (now (store .entry)) .names) (held (now (store .entry)) .facts) (part (held (now (store .entry)) .contexts) (p .from) (p .end - p .from)) (now (words .entry)) (p .params) (now (s .entry)) (x .scope) (x .label) (x .form) (x .looked) r ⌝ }
 {
-    let at = a.next;
+    let at = x.looked.next;
     if at < s.len() {
         if 1 < s.len() - at {
-            let x = s[at + 1];
+            let byte = s[at + 1];
             let tag = s[at];
             if tag == 0 {
-                return parameter_at(p.params, x, e, label, form, a, at + 2);
+                return parameter_at(p.params, byte, x.scope, x.label, x.form, x.looked, at + 2);
             }
             if tag == 4 {
-                return code_at(column, x, e, label, form, a, at + 2);
+                return code_at(column, byte, x.scope, x.label, x.form, x.looked, at + 2);
             }
         }
     }
-    any_step(
-        s,
-        column,
-        table,
-        nexts,
-        contexts,
-        names,
-        facts,
-        words,
-        p,
-        e,
-        label,
-        form,
-        a,
-    )
+    any_step(s, column, tables, store, words, p, x)
 }

@@ -4,29 +4,29 @@ ghost use mathlib.Core.Path.{_≡_};
 ghost use mathlib.Core.Bool.{false};
 ghost use Prim.Native.Nat.{_-_, _^_, _<_, _≤_};
 ghost use Rattle.limits.specs.Limits.{maxArity, maxModules};
+ghost use Rattle.rows.specs.Numbers.{rowColumn};
 ghost use Rattle.tokens.specs.Expr.{exprAt, several};
 ghost use Rattle.tokens.specs.Fold.{underOf};
 ghost use Rattle.context.specs.Parts.{part};
-ghost use Rattle.context.specs.Store.{contextCodes, wordCount};
-ghost use Rattle.tables.specs.Brought.{Nexted};
-ghost use Rattle.tables.specs.Names.{Tabled};
+ghost use Rattle.context.specs.Entries.{contextCodes, wordCount};
 ghost use Rattle.tables.specs.Serves.{Serves};
 ghost use Rattle.asking.specs.Walk.{AllJudged, Judged, Roomy};
+ghost use Rattle.store.specs.Store.{held};
 use crate::Walked;
+use crate::steps::Reached;
 use crate::steps::Scope;
 use crate::steps::next_step;
-use context::lists::number_at;
 use forms::Form;
 use levels::first_label;
 use limits::Limits;
 use resolve::steps::both;
 use resolve::steps::nothing;
-use skimming::Place;
+use skimming::ContextAt;
+use store::Lent;
+use store::Store;
+use store::reading::head_at;
 use tables::Long;
-use tables::brought;
-use tables::brought::Nexts;
-use tables::names;
-use tables::names::Names;
+use tables::Tables;
 
 // What arguments inherit: the variables bound around them, and in the last of them; the label of their place; and inside that the label of each.
 pub struct Under {
@@ -34,6 +34,14 @@ pub struct Under {
     pub within: Scope,
     pub label: u8,
     pub labels: u64,
+}
+
+// Where arguments stand, how many they are and how deep they may nest, and the form to which they are added.
+pub struct Args {
+    pub at: usize,
+    pub count: u8,
+    pub nest: usize,
+    pub form: u64,
 }
 
 // What the first of k arguments inherits: the last is inside the token's binder, the others are not.
@@ -58,51 +66,37 @@ fn stopped(at: usize) -> Walked
 fn walk_args(
     s: &[u8],
     column: &[u16],
-    table: &[u8],
-    nexts: &[u8],
-    contexts: &[u16],
-    names: &[u16],
-    facts: &[u16],
-    words: &[u64],
-    at: usize,
-    count: u8,
-    nesting: usize,
-    p: Place,
+    tables: &[u8],
+    store: &[u16; Store::LENGTH],
+    words: &[u64; Lent::WORDS],
+    p: ContextAt,
+    g: Args,
     u: Under,
-    before: u64,
 ) -> Walked
-    requires { ⌜ Serves (now names) (now contexts) (now column) (now table) (now nexts) (p .from) (p .end) × Roomy nesting u × (count ≤ maxArity) ⌝ }
-    ensures { λ r. ⌜ AllJudged (now (names .entry)) (now (facts .entry)) (part (now (contexts .entry)) (p .from) (p .end - p .from)) (now (words .entry)) (p .params) (now (s .entry)) u before (several (exprAt nesting (now (s .entry))) at count) r ⌝ }
+    requires { ⌜ (now column ≡ rowColumn) × Serves (held (now store)) (now tables) (p .from) (p .end) × Roomy (g .nest) u × (g .count ≤ maxArity) ⌝ }
+    ensures { λ r. ⌜ AllJudged (held (now (store .entry)) .names) (held (now (store .entry)) .facts) (part (held (now (store .entry)) .contexts) (p .from) (p .end - p .from)) (now (words .entry)) (p .params) (now (s .entry)) u (g .form) (several (exprAt (g .nest) (now (s .entry))) (g .at) (g .count)) r ⌝ }
 {
-    let mut a = nothing(at);
-    let mut form = before;
-    let mut k = count;
-    let mut nest = nesting;
+    let mut a = nothing(g.at);
+    let mut form = g.form;
+    let mut k = g.count;
+    let mut nest = g.nest;
     let mut around = u.around;
     let mut within = u.within;
     let mut label = u.label;
     let mut labels = u.labels;
     while k != 0 {
         if nest == 0 {
-            return stopped(at);
+            return stopped(g.at);
         }
         let e = scope(k, around, within);
         let l = first_label(label, labels);
-        let t = next_step(
-            s,
-            column,
-            table,
-            nexts,
-            contexts,
-            names,
-            facts,
-            words,
-            p,
-            e,
-            l,
+        let x = Reached {
+            scope: e,
+            label: l,
             form,
-            a,
-        );
+            looked: a,
+        };
+        let t = next_step(s, column, tables, store, words, p, x);
         if t.kept {
             a = t.looked;
             form = t.form;
@@ -127,22 +121,13 @@ fn walk_args(
                 label: l,
                 labels: t.labels,
             };
-            let b = walk_args(
-                s,
-                column,
-                table,
-                nexts,
-                contexts,
-                names,
-                facts,
-                words,
-                a.next,
-                t.count,
-                nest - 1,
-                p,
-                inner,
+            let args = Args {
+                at: a.next,
+                count: t.count,
+                nest: nest - 1,
                 form,
-            );
+            };
+            let b = walk_args(s, column, tables, store, words, p, args, inner);
             if b.kept {
                 a = both(a, b.looked);
                 form = b.form;
@@ -150,9 +135,9 @@ fn walk_args(
                 labels = labels / 8;
                 continue;
             }
-            return stopped(at);
+            return stopped(g.at);
         }
-        return stopped(at);
+        return stopped(g.at);
     }
     Walked {
         kept: true,
@@ -161,19 +146,16 @@ fn walk_args(
     }
 }
 
-// The expression that the bytes begin with, by tables that may be empty.
+// The expression that the bytes begin with, by tables or none.
 fn judge_with(
     s: &[u8],
-    table: &[u8],
-    nexts: &[u8],
-    contexts: &[u16],
-    names: &[u16],
-    facts: &[u16],
-    words: &[u64],
-    p: Place,
+    tables: &[u8],
+    store: &[u16; Store::LENGTH],
+    words: &[u64; Lent::WORDS],
+    p: ContextAt,
 ) -> Walked
-    requires { ⌜ Tabled (now names) (now contexts) (p .from) (p .end) (now table) × Nexted (now names) (now nexts) × (p .from < 2 ^ 32) ⌝ }
-    ensures { λ r. ⌜ Judged (now (names .entry)) (now (facts .entry)) (part (now (contexts .entry)) (p .from) (p .end - p .from)) (now (words .entry)) (p .params) (now (s .entry)) r ⌝ }
+    requires { ⌜ Serves (held (now store)) (now tables) (p .from) (p .end) ⌝ }
+    ensures { λ r. ⌜ Judged (held (now (store .entry)) .names) (held (now (store .entry)) .facts) (part (held (now (store .entry)) .contexts) (p .from) (p .end - p .from)) (now (words .entry)) (p .params) (now (s .entry)) r ⌝ }
 {
     let column = rows::row_column();
     let e = Scope { bits: 0, bound: 0 };
@@ -183,82 +165,64 @@ fn judge_with(
         label: Form::PLAIN,
         labels: Form::PLAIN as u64,
     };
-    walk_args(
-        s,
-        &column,
-        table,
-        nexts,
-        contexts,
-        names,
-        facts,
-        words,
-        0,
-        1,
-        Limits::NESTING,
-        p,
-        u,
-        0,
-    )
+    let g = Args {
+        at: 0,
+        count: 1,
+        nest: Limits::NESTING,
+        form: 0,
+    };
+    walk_args(s, &column, tables, store, words, p, g, u)
 }
 
 // The same with no tables, which costs less where the expression is short.
 fn judge_short(
     s: &[u8],
-    contexts: &[u16],
-    names: &[u16],
-    facts: &[u16],
-    words: &[u64],
-    p: Place,
+    store: &[u16; Store::LENGTH],
+    words: &[u64; Lent::WORDS],
+    p: ContextAt,
 ) -> Walked
     requires { ⌜ p .from < 2 ^ 32 ⌝ }
-    ensures { λ r. ⌜ Judged (now (names .entry)) (now (facts .entry)) (part (now (contexts .entry)) (p .from) (p .end - p .from)) (now (words .entry)) (p .params) (now (s .entry)) r ⌝ }
+    ensures { λ r. ⌜ Judged (held (now (store .entry)) .names) (held (now (store .entry)) .facts) (part (held (now (store .entry)) .contexts) (p .from) (p .end - p .from)) (now (words .entry)) (p .params) (now (s .entry)) r ⌝ }
 {
-    judge_with(s, &s[..0], &s[..0], contexts, names, facts, words, p)
+    judge_with(s, &s[..0], store, words, p)
 }
 
 // The same with the tables filled.
 fn judge_long(
     s: &[u8],
-    contexts: &[u16],
-    names: &[u16],
-    facts: &[u16],
-    words: &[u64],
-    p: Place,
+    store: &[u16; Store::LENGTH],
+    words: &[u64; Lent::WORDS],
+    p: ContextAt,
 ) -> Walked
     requires { ⌜ (p .from < 2 ^ 32) × (p .from ≤ p .end) × (p .end - p .from < wordCount) ⌝ }
-    ensures { λ r. ⌜ Judged (now (names .entry)) (now (facts .entry)) (part (now (contexts .entry)) (p .from) (p .end - p .from)) (now (words .entry)) (p .params) (now (s .entry)) r ⌝ }
+    ensures { λ r. ⌜ Judged (held (now (store .entry)) .names) (held (now (store .entry)) .facts) (part (held (now (store .entry)) .contexts) (p .from) (p .end - p .from)) (now (words .entry)) (p .params) (now (s .entry)) r ⌝ }
 {
-    let mut table = [0u8; Names::BYTES];
-    let mut nexts = [0u8; Nexts::BYTES];
-    names::fill(names, contexts, &mut table, p.from, p.end);
-    brought::fill(names, &mut nexts);
-    judge_with(s, &table, &nexts, contexts, names, facts, words, p)
+    let mut tables = [0u8; Tables::BYTES];
+    tables::fill(store, &mut tables, p.from, p.end);
+    judge_with(s, &tables, store, words, p)
 }
 
 // The expression that the bytes begin with, in the context of module m, so many parameters being known.
 pub fn judge(
     s: &[u8],
-    contexts: &[u16],
-    names: &[u16],
-    facts: &[u16],
-    heads: &[u16],
-    words: &[u64],
+    store: &[u16; Store::LENGTH],
+    words: &[u64; Lent::WORDS],
     m: usize,
     params: usize,
 ) -> Walked
     requires { ⌜ m ≤ maxModules ⌝ }
-    ensures { λ r. ⌜ Judged (now (names .entry)) (now (facts .entry)) (contextCodes (now (contexts .entry)) (now (heads .entry)) m) (now (words .entry)) params (now (s .entry)) r ⌝ }
+    ensures { λ r. ⌜ Judged (held (now (store .entry)) .names) (held (now (store .entry)) .facts) (contextCodes (held (now (store .entry)) .contexts) (held (now (store .entry)) .heads) m) (now (words .entry)) params (now (s .entry)) r ⌝ }
 {
     let from = m * Limits::CONTEXT;
-    let count = number_at(heads, Limits::PLACES + m) as usize;
-    let p = Place {
+    let count = head_at(store, Limits::PLACES + m) as usize;
+    let p = ContextAt {
         from,
         end: from + count,
         params,
     };
     if s.len() < Long::BYTES {
-        judge_short(s, contexts, names, facts, words, p)
+        judge_short(s, store, words, p)
     } else {
-        judge_long(s, contexts, names, facts, words, p)
+        judge_long(s, store, words, p)
     }
 }

@@ -21,7 +21,7 @@ use Rattle.cells.specs.Table.{EndsCalls, Noted, Sized, Tabled, packed, rankAt, 
 use Rattle.cells.specs.Words.{four, wordAt}
 use Rattle.cells.specs.declared.Layout.{Layout}
 use Rattle.cells.specs.declared.Place.{Place}
-use Rattle.call_table.specs.Walking.{Ahead, Ended, Ending, EndsArgument, EndsCall, Halfway, Placed, Putting, Puts, Right, Source}
+use Rattle.call_table.specs.Walking.{Ahead, Ended, Ending, EndsArgument, EndsCall, Halfway, PutsEnd, Putting, Puts, Right, Source}
 use Rattle.call_table.specs.declared.Reached.{Reached}
 use Rattle.call_table.proofs.Rows.{end-inside}
 use Rattle.call_table.proofs.Tallies.{tally-call, tally-more}
@@ -29,11 +29,11 @@ use Rattle.call_table.proofs.Arguments.{Called, ahead-call, ahead-next,
 use Rattle.call_table.proofs.Cuts.{rank-cut, whole-read}
 
 module _ (l : Layout) (r i : ℕ) (before : List ℕ) (e : Reached) where
-  pub placed-failed : Placed l r i before before e (record { ok = false; at = 0; rank = 0 })
+  pub placed-failed : PutsEnd l r i before before e (record { ok = false; at = 0; rank = 0 })
   placed-failed = record { long = refl; small = omega arith; others = λ j d. refl; word = λ o. never (sym o); same = λ o. never (sym o) }
 
   pub placed-one : (after : List ℕ) (long known j : ℕ) → j ≡ r * l .stride + (i + 1) → r < known → i < l .places → long ≤ 131072 → Sized l (length before) → known ≤ l .room
-      → e .at ≤ long → e .rank ≤ known → after ≡ sets before (4 * j) (four (e .at * 16384 + e .rank)) → Placed l r i before after e e
+      → e .at ≤ long → e .rank ≤ known → after ≡ sets before (4 * j) (four (e .at * 16384 + e .rank)) → PutsEnd l r i before after e e
   placed-one after long known j q b c small z few u v s =
       record {
         long = ap length s ∙ length-sets before (4 * j) (four (e .at * 16384 + e .rank));
@@ -50,7 +50,7 @@ pub places-same : (x h s : ℕ) → x ≡ placesOf h → h ≡ s → x ≡ place
 places-same x h s e f = e ∙ ap placesOf f
 
 module _ (a shapes : List ℕ) (n : ℕ) (l : Layout) (known : ℕ) where
-  pub puts-placed : (h r i : ℕ) (p : Place) (before after : List ℕ) (e e′ : Reached) → EndsArgument a shapes n l known before h p e → Placed l r i before after e e′
+  pub puts-placed : (h r i : ℕ) (p : Place) (before after : List ℕ) (e e′ : Reached) → EndsArgument a shapes n l known before h p e → PutsEnd l r i before after e e′
       → Puts a shapes n l known h r i p before after e′
   puts-placed h r i p before after e e′ k q = record { found = e; ends = k; placed = q }
 

@@ -122,7 +122,7 @@ pub record EndsArgument (a shapes : List ℕ) (n : ℕ) (l : Layout) (known : �
       → Ahead shapes n r t ks h (p .at) → p .rank ≡ rankAt known n a (p .at) → Lands a n known (endOf a shapes h (p .at)) e
 
 -- the word where argument i of call r ends, put where there is one
-pub record Placed (l : Layout) (r i : ℕ) (before after : List ℕ) (e e′ : Reached) : Type 0 where
+pub record PutsEnd (l : Layout) (r i : ℕ) (before after : List ℕ) (e e′ : Reached) : Type 0 where
   pub long : length after ≡ length before
   pub small : e′ .rank ≤ 16383
   pub others : (j : ℕ) → (r * l .stride + (i + 1) ≡ j → ⊥) → wordAt after j ≡ wordAt before j
@@ -133,7 +133,7 @@ pub record Placed (l : Layout) (r i : ℕ) (before after : List ℕ) (e e′ : R
 pub record Puts (a shapes : List ℕ) (n : ℕ) (l : Layout) (known h r i : ℕ) (p : Place) (before after : List ℕ) (e : Reached) : Type 0 where
   pub found : Reached
   pub ends : EndsArgument a shapes n l known before h p found
-  pub placed : Placed l r i before after found e
+  pub placed : PutsEnd l r i before after found e
 
 -- Of the call that stands after gs: i of its arguments are passed, `rest` being the bits of those that are ahead, and have their words.
 pub record Halfway (a shapes : List ℕ) (n : ℕ) (l : Layout) (known r : ℕ) (t : Term) (table : List ℕ) (p : Place) (rest i : ℕ) (gs : List Symbol) : Type 0 where

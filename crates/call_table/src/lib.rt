@@ -8,8 +8,8 @@ ghost use Rattle.rows.specs.Rows.{arityColumn};
 ghost use Rattle.strings.specs.Read.{stringAt, symbolOf};
 ghost use Rattle.symbols.specs.Spell.{maxParams};
 ghost use Rattle.rewriting.specs.Ends.{placesOf};
-ghost use Rattle.cells.specs.Table.{EndsCalls, Noted, Sized, tally};
-ghost use Rattle.call_table.specs.Walking.{EndsArgument, EndsCall, EndsTerm, Notes, Passes, Placed, Puts, Small, hopped, stepped};
+ghost use Rattle.cells.specs.Table.{EndsCalls, Noted, Sized, tally, stringBytes};
+ghost use Rattle.call_table.specs.Walking.{EndsArgument, EndsCall, EndsTerm, Notes, Passes, Puts, PutsEnd, Small, hopped, stepped};
 ghost use Rattle.cells.specs.Words.{wordAt};
 use cells::Layout;
 use cells::Place;
@@ -51,12 +51,16 @@ fn cell(stride: usize, r: usize, i: usize) -> usize
 
 // One call more noted, if there are words for it. How many there are then.
 fn note(table: &mut [u8], l: Layout, rank: usize, at: usize, call: bool) -> usize
-    requires { ⌜ (at ≤ 131072) × (rank ≤ l .room) × Sized l (length (now table)) ⌝ }
+    requires { ⌜ (at ≤ stringBytes) × (rank ≤ l .room) × Sized l (length (now table)) ⌝ }
     ensures { λ r. ⌜ Notes l rank at call (now (table .entry)) (now (table .exit)) r ⌝ }
 {
     if call {
         if rank < l.room {
-            put_word(table, cell(l.stride, rank, 0), (at + 2) * 16384 + rank + 1);
+            put_word(
+                table,
+                cell(l.stride, rank, 0),
+                (at + 2) * Place::RANKS + rank + 1,
+            );
             return rank + 1;
         }
     }
@@ -65,7 +69,7 @@ fn note(table: &mut [u8], l: Layout, rank: usize, at: usize, call: bool) -> usiz
 
 // The first calls of n noted: for each the place where its arguments begin. How many there are, `room` at most.
 pub fn note_calls(a: &[u8], n: u16, table: &mut [u8], l: Layout) -> usize
-    requires { ⌜ (length (now a) ≤ 131072) × Sized l (length (now table)) ⌝ }
+    requires { ⌜ (length (now a) ≤ stringBytes) × Sized l (length (now table)) ⌝ }
     ensures { λ r. ⌜ Noted (now (a .entry)) n l r (now (table .exit)) × (r ≡ min (l .room) (tally n (stringAt (now (a .entry)) 0 (length (now (a .entry)))))) ⌝ }
 {
     let mut i: usize = 0;
@@ -95,7 +99,7 @@ fn hop(table: &[u8], l: Layout, w: Walk) -> Walk
 
 // Past one symbol.
 fn step(g: Sign, call: bool, shapes: &[u32], arities: &[u8], known: usize, w: Walk) -> Walk
-    requires { ⌜ (now arities ≡ arityColumn) × (w .at < 131072) × Small w ⌝ }
+    requires { ⌜ (now arities ≡ arityColumn) × (w .at < stringBytes) × Small w ⌝ }
     ensures { λ v. ⌜ (v ≡ stepped (now (shapes .entry)) known call (symbolOf g) w) × (w .at < v .at) × (v .left ≤ w .left + 255) × (v .c ≤ w .c + 1) ⌝ }
 {
     Walk {
@@ -130,7 +134,7 @@ fn pass(
     known: usize,
     w: Walk,
 ) -> Walk
-    requires { ⌜ (length (now a) ≤ 131072) × (w .at < length (now a)) × Sized l (length (now table)) × (known ≤ l .room) × (l .places ≡ placesOf (getD (now shapes) n 0)) × (now arities ≡ arityColumn) × Small w × ((eqb (w .left) 0 && eqb (w .c) 0) ≡ false) ⌝ }
+    requires { ⌜ (length (now a) ≤ stringBytes) × (w .at < length (now a)) × Sized l (length (now table)) × (known ≤ l .room) × (l .places ≡ placesOf (getD (now shapes) n 0)) × (now arities ≡ arityColumn) × Small w × ((eqb (w .left) 0 && eqb (w .c) 0) ≡ false) ⌝ }
     ensures { λ v. ⌜ Passes (now (a .entry)) (now (shapes .entry)) n l known (now (table .entry)) w v ⌝ }
 {
     let g = symbol_at(a, w.at);
@@ -152,7 +156,7 @@ fn term_end(
     known: usize,
     p: Place,
 ) -> Reached
-    requires { ⌜ (length (now a) ≤ 131072) × Sized l (length (now table)) × (known ≤ l .room) × (l .places ≡ placesOf (getD (now shapes) n 0)) × (now arities ≡ arityColumn) × (p .rank ≤ 16383) ⌝ }
+    requires { ⌜ (length (now a) ≤ stringBytes) × Sized l (length (now table)) × (known ≤ l .room) × (l .places ≡ placesOf (getD (now shapes) n 0)) × (now arities ≡ arityColumn) × (p .rank ≤ 16383) ⌝ }
     ensures { λ e. ⌜ EndsTerm (now (a .entry)) (now (shapes .entry)) n l known (now (table .entry)) p e ⌝ }
 {
     let mut w = Walk {
@@ -198,7 +202,7 @@ fn argument_end(
     h: u32,
     p: Place,
 ) -> Reached
-    requires { ⌜ (length (now a) ≤ 131072) × Sized l (length (now table)) × (known ≤ l .room) × (l .places ≡ placesOf (getD (now shapes) n 0)) × (now arities ≡ arityColumn) × (p .rank ≤ 16383) ⌝ }
+    requires { ⌜ (length (now a) ≤ stringBytes) × Sized l (length (now table)) × (known ≤ l .room) × (l .places ≡ placesOf (getD (now shapes) n 0)) × (now arities ≡ arityColumn) × (p .rank ≤ 16383) ⌝ }
     ensures { λ e. ⌜ EndsArgument (now (a .entry)) (now (shapes .entry)) n l known (now (table .entry)) h p e ⌝ }
 {
     if h % 2 == 1 {
@@ -221,8 +225,8 @@ fn put_place(
     i: usize,
     e: Reached,
 ) -> Reached
-    requires { ⌜ (long ≤ 131072) × Sized l (length (now table)) × (known ≤ l .room) × (r < known) × (i < l .places) ⌝ }
-    ensures { λ v. ⌜ Placed l r i (now (table .entry)) (now (table .exit)) e v ⌝ }
+    requires { ⌜ (long ≤ stringBytes) × Sized l (length (now table)) × (known ≤ l .room) × (r < known) × (i < l .places) ⌝ }
+    ensures { λ v. ⌜ PutsEnd l r i (now (table .entry)) (now (table .exit)) e v ⌝ }
 {
     if long < e.at {
         return Reached {
@@ -238,7 +242,11 @@ fn put_place(
             rank: 0,
         };
     }
-    put_word(table, cell(l.stride, r, i + 1), e.at * 16384 + e.rank);
+    put_word(
+        table,
+        cell(l.stride, r, i + 1),
+        e.at * Place::RANKS + e.rank,
+    );
     e
 }
 
@@ -256,7 +264,7 @@ fn put_end(
     i: usize,
     p: Place,
 ) -> Reached
-    requires { ⌜ (length (now a) ≤ 131072) × Sized l (length (now table)) × (known ≤ l .room) × (l .places ≡ placesOf (getD (now shapes) n 0)) × (now arities ≡ arityColumn) × (p .rank ≤ 16383) × (r < known) × (i < l .places) ⌝ }
+    requires { ⌜ (length (now a) ≤ stringBytes) × Sized l (length (now table)) × (known ≤ l .room) × (l .places ≡ placesOf (getD (now shapes) n 0)) × (now arities ≡ arityColumn) × (p .rank ≤ 16383) × (r < known) × (i < l .places) ⌝ }
     ensures { λ e. ⌜ Puts (now (a .entry)) (now (shapes .entry)) n l known h r i p (now (table .entry)) (now (table .exit)) e ⌝ }
 {
     let e = argument_end(a, shapes, arities, n, table, l, known, h, p);
@@ -275,7 +283,7 @@ fn end_call(
     h: u32,
     r: usize,
 ) -> bool
-    requires { ⌜ (length (now a) ≤ 131072) × Sized l (length (now table)) × (known ≤ l .room) × (h ≡ getD (now shapes) n 0) × (l .places ≡ placesOf h) × (now arities ≡ arityColumn) × (r < known) ⌝ }
+    requires { ⌜ (length (now a) ≤ stringBytes) × Sized l (length (now table)) × (known ≤ l .room) × (h ≡ getD (now shapes) n 0) × (l .places ≡ placesOf h) × (now arities ≡ arityColumn) × (r < known) ⌝ }
     ensures { λ y. ⌜ EndsCall (now (a .entry)) (now (shapes .entry)) n l known r (now (table .entry)) (now (table .exit)) y ⌝ }
 {
     let mut p = unpack(word(table, cell(l.stride, r, 0)));
@@ -307,7 +315,7 @@ pub fn end_calls(
     known: usize,
     h: u32,
 ) -> bool
-    requires { ⌜ (length (now a) ≤ 131072) × Sized l (length (now table)) × (known ≤ l .room) × (now arities ≡ arityColumn) × (h ≡ getD (now shapes) n 0) × (l .places ≡ placesOf h) ⌝ }
+    requires { ⌜ (length (now a) ≤ stringBytes) × Sized l (length (now table)) × (known ≤ l .room) × (now arities ≡ arityColumn) × (h ≡ getD (now shapes) n 0) × (l .places ≡ placesOf h) ⌝ }
     ensures { λ r. ⌜ EndsCalls (now (a .entry)) (now (shapes .entry)) n l known (now (table .entry)) (now (table .exit)) r ⌝ }
 {
     let mut r = known;

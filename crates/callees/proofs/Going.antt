@@ -14,7 +14,7 @@ use Rattle.limits.specs.Limits.{maxArity, maxDeclarations, maxDefinitions, maxM
 use Rattle.rules.specs.State.{State}
 use Rattle.laws.proofs.Within.{Within}
 use Rattle.texts.specs.Text.{Declarations}
-use Rattle.context.specs.Store.{sourceAt, store}
+use Rattle.store.specs.Store.{Store, sourceAt}
 use Rattle.context.specs.declared.Counts.{Counts}
 use Rattle.worlds.specs.Rows.{Row, worldOf}
 use Rattle.worlds.proofs.Depth.{Depths, chain-short}
@@ -82,14 +82,14 @@ chain-started D before numbers row currents outers p i h k =
     record { numbered = subst Itselves (sym (p .here)) i; current = getD-set-same currents 0 D 0 (omega arith); outer = getD-set-same outers 0 0 0 (omega arith) }
 
 -- Levels up to l are in the arrays.
-pub record Upto (facts orders heads : List ℕ) (D l : ℕ) (numbers currents outers : List ℕ) : Type 0 where
+pub record Upto (v : Store) (D l : ℕ) (numbers currents outers : List ℕ) : Type 0 where
   pub sized : Sized numbers currents outers
   pub few : l ≤ maxLinks
   pub cur-few : getD currents l 0 < maxDefinitions
   pub outer-few : getD outers l 0 ≤ maxArity
-  pub on : (j : ℕ) → j < l → stepFits facts (getD outers j 0) (getD currents j 0) ≡ true
-  pub each : (file refs names contexts declared : List ℕ) (n : ℕ) (c : Counts) (s : State) (rs : List Row) (decls : Declarations) (end : ℕ)
-      (ready : Ready file refs (store names facts contexts orders heads) declared n c s rs decls end) → D < c .definitions → (j : ℕ) → j ≤ l
+  pub on : (j : ℕ) → j < l → stepFits (v .facts) (getD outers j 0) (getD currents j 0) ≡ true
+  pub each : (file refs : List ℕ) (n : ℕ) (c : Counts) (s : State) (rs : List Row) (decls : Declarations) (end : ℕ)
+      (ready : Ready file refs v (v .declared) n c s rs decls end) → D < c .definitions → (j : ℕ) → j ≤ l
       → AtLevel s rs (ready .worlds .runs) D j (getD currents j 0) (getD outers j 0) (rowOf numbers j)
 
 at-same : (s : State) (rs : List Row) (bs : List Run) (D j cur cur′ outer outer′ : ℕ) (row row′ : List ℕ) → cur ≡ cur′ → outer ≡ outer′ → row ≡ row′
@@ -98,25 +98,28 @@ at-same s rs bs D j cur cur′ outer outer′ row row′ p q r a =
     subst (λ (y : List ℕ). AtLevel s rs bs D j cur′ outer′ y) r
     (subst (λ (y : ℕ). AtLevel s rs bs D j cur′ y row) q (subst (λ (y : ℕ). AtLevel s rs bs D j y outer row) p a))
 
-pub upto-start : (facts orders heads : List ℕ) (D : ℕ) (numbers currents outers : List ℕ) → length numbers ≡ maxDefinitions * maxModules → length currents ≡ maxModules
-    → length outers ≡ maxModules → D < maxDefinitions → ChainStarted D numbers currents outers → Upto facts orders heads D 0 numbers currents outers
-upto-start facts orders heads D numbers currents outers a b d h x =
+pub upto-start : (v : Store) (D : ℕ) (numbers currents outers : List ℕ) → length numbers ≡ maxDefinitions * maxModules → length currents ≡ maxModules
+    → length outers ≡ maxModules → D < maxDefinitions → ChainStarted D numbers currents outers → Upto v D 0 numbers currents outers
+upto-start v D numbers currents outers a b d h x =
     record {
       sized = record { numbers-size = a; currents-size = b; outers-size = d };
       few = omega arith;
       cur-few = omega (arith, x .current);
       outer-few = omega (arith, x .outer);
       on = λ (j : ℕ) (i : j < 0). absurd (omega arith);
-      each = λ file refs names contexts declared n c s rs decls end ready there j i.
+      each = λ file refs n c s rs decls end ready there j i.
           let z : j ≡ 0 = omega (arith, i) in
           subst (λ (y : ℕ). AtLevel s rs (ready .worlds .runs) D y (getD currents y 0) (getD outers y 0) (rowOf numbers y)) (sym z)
           (at-same s rs (ready .worlds .runs) D 0 D (getD currents 0 0) 0 (getD outers 0 0) (rowOf numbers 0) (rowOf numbers 0) (sym (x .current)) (sym (x .outer)) refl
-          (level-start file refs (store names facts contexts orders heads) declared n D c s rs decls end ready there (rowOf numbers 0) (x .numbered)));
+          (level-start file refs v (v .declared) n D c s rs decls end ready there (rowOf numbers 0) (x .numbered)));
     }
 
-module _ (facts orders heads : List ℕ) (D l : ℕ) (numbers currents outers : List ℕ) (upto : Upto facts orders heads D l numbers currents outers) where
+module _ (v : Store) (D l : ℕ) (numbers currents outers : List ℕ) (upto : Upto v D l numbers currents outers) where
+  abbrev facts : List ℕ
+  facts = v .facts
+
   module _ (numbers′ currents′ outers′ : List ℕ) (went : goesOn facts currents outers l ≡ true)
-      (x : LevelEntered facts orders heads l numbers numbers′ currents currents′ outers outers′) where
+      (x : LevelEntered facts (v .orders) (v .heads) l numbers numbers′ currents currents′ outers outers′) where
     room : l < maxLinks
     room = goes-room facts currents outers l went
 
@@ -146,10 +149,10 @@ module _ (facts orders heads : List ℕ) (D l : ℕ) (numbers currents outers : 
     step-on j i (yes e) = subst (λ (y : ℕ). stepFits facts (getD outers y 0) (getD currents y 0) ≡ true) (sym e) fits
     step-on j i (no e) = upto .on j (omega arith)
 
-    module _ (file refs names contexts declared : List ℕ) (n : ℕ) (c : Counts) (s : State) (rs : List Row) (decls : Declarations) (end : ℕ)
-        (ready : Ready file refs (store names facts contexts orders heads) declared n c s rs decls end) (there : D < c .definitions) where
+    module _ (file refs : List ℕ) (n : ℕ) (c : Counts) (s : State) (rs : List Row) (decls : Declarations) (end : ℕ)
+        (ready : Ready file refs v (v .declared) n c s rs decls end) (there : D < c .definitions) where
       here : AtLevel s rs (ready .worlds .runs) D l (getD currents l 0) (getD outers l 0) (rowOf numbers l)
-      here = upto .each file refs names contexts declared n c s rs decls end ready there l (omega arith)
+      here = upto .each file refs n c s rs decls end ready there l (omega arith)
 
       next : AtLevel s rs (ready .worlds .runs) D (l + 1) (getD currents′ (l + 1) 0) (getD outers′ (l + 1) 0) (rowOf numbers′ (l + 1))
       next =
@@ -157,7 +160,7 @@ module _ (facts orders heads : List ℕ) (D l : ℕ) (numbers currents outers : 
           (at-same s rs (ready .worlds .runs) D (suc l) (sourceAt facts (getD currents l 0)) (getD currents′ (l + 1) 0)
           (outerAfter facts (getD outers l 0) (getD currents l 0)) (getD outers′ (l + 1) 0) (rowOf numbers′ (l + 1)) (rowOf numbers′ (l + 1)) (sym new-current) (sym new-outer)
           refl
-          (level-on file refs (store names facts contexts orders heads) declared n D c s rs decls end ready there l (getD currents l 0) (getD outers l 0) (rowOf numbers l) here
+          (level-on file refs v (v .declared) n D c s rs decls end ready there l (getD currents l 0) (getD outers l 0) (rowOf numbers l) here
           fits (rowOf numbers′ (l + 1)) (x .row .entered)))
 
       each-on : (j : ℕ) → j ≤ l + 1 → Dec (j ≡ l + 1)
@@ -166,9 +169,9 @@ module _ (facts orders heads : List ℕ) (D l : ℕ) (numbers currents outers : 
       each-on j i (no e) =
           let k : j ≤ l = omega arith in
           at-same s rs (ready .worlds .runs) D j (getD currents j 0) (getD currents′ j 0) (getD outers j 0) (getD outers′ j 0) (rowOf numbers j) (rowOf numbers′ j)
-          (old-current j k) (old-outer j k) (sym (x .row .kept j (omega (arith, k)))) (upto .each file refs names contexts declared n c s rs decls end ready there j k)
+          (old-current j k) (old-outer j k) (sym (x .row .kept j (omega (arith, k)))) (upto .each file refs n c s rs decls end ready there j k)
 
-    pub upto-turn : length numbers′ ≡ maxDefinitions * maxModules → Upto facts orders heads D (l + 1) numbers′ currents′ outers′
+    pub upto-turn : length numbers′ ≡ maxDefinitions * maxModules → Upto v D (l + 1) numbers′ currents′ outers′
     upto-turn size =
         record {
           sized =
@@ -186,34 +189,33 @@ module _ (facts orders heads : List ℕ) (D l : ℕ) (numbers currents outers : 
               let k : j ≤ l = omega (arith, i) in
               subst (λ (y : ℕ). stepFits facts y (getD currents′ j 0) ≡ true) (old-outer j k)
               (subst (λ (y : ℕ). stepFits facts (getD outers j 0) y ≡ true) (old-current j k) (step-on j i (ℕ-discrete j l)));
-          each = λ file refs names contexts declared n c s rs decls end ready there j i.
-              each-on file refs names contexts declared n c s rs decls end ready there j i (ℕ-discrete j (l + 1));
+          each = λ file refs n c s rs decls end ready there j i.
+              each-on file refs n c s rs decls end ready there j i (ℕ-discrete j (l + 1));
         }
 
   -- Where no step is made the chain ends: it has no more links than there is room for.
-  pub upto-whole : goesOn facts currents outers l ≡ false → ChainEntered facts orders heads D l numbers currents outers
+  pub upto-whole : goesOn facts currents outers l ≡ false → ChainEntered v D l numbers currents outers
   upto-whole left =
       record {
         few = upto .few;
-        chain = λ file refs names contexts declared n c s rs decls end ready there room within depths.
+        chain = λ file refs n c s rs decls end ready there room within depths.
             record {
               few = upto .few;
-              each = upto .each file refs names contexts declared n c s rs decls end ready there;
+              each = upto .each file refs n c s rs decls end ready there;
               on = upto .on;
-              over = over file refs names contexts declared n c s rs decls end ready there room within depths (stepFits facts (getD outers l 0) (getD currents l 0)) refl;
+              over = over file refs n c s rs decls end ready there room within depths (stepFits facts (getD outers l 0) (getD currents l 0)) refl;
             };
       }
     where
-      over : (file refs names contexts declared : List ℕ) (n : ℕ) (c : Counts) (s : State) (rs : List Row) (decls : Declarations) (end : ℕ)
-          (ready : Ready file refs (store names facts contexts orders heads) declared n c s rs decls end) → D < c .definitions → n ≤ maxDeclarations → Within s → Depths s rs
+      over : (file refs : List ℕ) (n : ℕ) (c : Counts) (s : State) (rs : List Row) (decls : Declarations) (end : ℕ)
+          (ready : Ready file refs v (v .declared) n c s rs decls end) → D < c .definitions → n ≤ maxDeclarations → Within s → Depths s rs
           → (b : Bool) → stepFits facts (getD outers l 0) (getD currents l 0) ≡ b → b ≡ false
-      over file refs names contexts declared n c s rs decls end ready there room within depths false e = refl
-      over file refs names contexts declared n c s rs decls end ready there room within depths true e =
-          let v = store names facts contexts orders heads in
-          let here = upto .each file refs names contexts declared n c s rs decls end ready there l (omega arith) in
+      over file refs n c s rs decls end ready there room within depths false e = refl
+      over file refs n c s rs decls end ready there room within depths true e =
+          let here = upto .each file refs n c s rs decls end ready there l (omega arith) in
           let deep : l < length (worldOf rs D) =
-          deeper file refs v declared n D c s rs decls end ready there room l (getD currents l 0) (getD outers l 0) (rowOf numbers l) here e in
-          let inside : D < length rs = omega (arith, known file refs v declared n D c s rs decls end ready there, ready .worlds .book .counted) in
+          deeper file refs v (v .declared) n D c s rs decls end ready there room l (getD currents l 0) (getD outers l 0) (rowOf numbers l) here e in
+          let inside : D < length rs = omega (arith, known file refs v (v .declared) n D c s rs decls end ready there, ready .worlds .book .counted) in
           let short : length (worldOf rs D) ≤ 15 = chain-short s rs within depths D inside in
           let went : true ≡ goesOn facts currents outers l =
           goes-there facts currents outers l (getD outers l 0) (getD currents l 0) true (omega arith) refl refl (sym e) in

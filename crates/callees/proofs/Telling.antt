@@ -14,7 +14,7 @@ use Rattle.symbols.specs.Spell.{maxParams, spell}
 use Rattle.rules.specs.State.{State, paramsOf}
 use Rattle.tokens.specs.Expr.{Found, exprAt}
 use Rattle.texts.specs.Text.{Declarations, noDeclaration}
-use Rattle.context.specs.Store.{Store, firstAt, kindAt, store}
+use Rattle.store.specs.Store.{Store, firstAt, kindAt}
 use Rattle.context.specs.declared.Counts.{Counts}
 use Rattle.worlds.specs.Rows.{Row, worldOf}
 use Rattle.worlds.specs.World.{World, paramsIn}
@@ -117,98 +117,94 @@ text-at file refs names declared row row′ shapes at at′ l outer outer′ out
     (subst (λ (y : ℕ). TextString file refs names declared row′ shapes y l outer out room fits len) q
     (subst (λ (y : List ℕ). TextString file refs names declared y shapes at l outer out room fits len) p x))
 
-pub own-string : (file refs names facts declared numbers currents outers shapes : List ℕ) (k cur outer at : ℕ) (row out : List ℕ) (room : ℕ) (fits : Bool) (len : ℕ)
-    → Clamped 255 (getD currents k 0) cur → Clamped maxArity (getD outers k 0) outer → at ≡ firstAt facts cur → row ≡ rowOf numbers k
-    → TextString file refs names declared row shapes at k outer out room fits len
-    → OwnString file refs names facts declared numbers currents outers shapes k out room fits len
-own-string file refs names facts declared numbers currents outers shapes k cur outer at row out room fits len a b p q x =
+pub own-string : (file refs : List ℕ) (v : Store) (numbers currents outers shapes : List ℕ) (k cur outer at : ℕ) (row out : List ℕ) (room : ℕ) (fits : Bool) (len : ℕ)
+    → Clamped 255 (getD currents k 0) cur → Clamped maxArity (getD outers k 0) outer → at ≡ firstAt (v .facts) cur → row ≡ rowOf numbers k
+    → TextString file refs (v .names) (v .declared) row shapes at k outer out room fits len
+    → OwnString file refs v numbers currents outers shapes k out room fits len
+own-string file refs v numbers currents outers shapes k cur outer at row out room fits len a b p q x =
     record { told = x .told; string = string }
   where
-    string : (contexts orders heads : List ℕ) (n D : ℕ) (c : Counts) (s : State) (rs : List Row) (decls : Declarations) (end : ℕ)
-        (ready : Ready file refs (store names facts contexts orders heads) declared n c s rs decls end) → D < c .definitions → n ≤ maxDeclarations
-        → Entered s rs (ready .worlds .runs) facts D k numbers currents outers → ShapesFit shapes
-        → Strung (ownTerm file refs facts decls k numbers currents outers) shapes end out room fits len
-    string contexts orders heads n D c s rs decls end ready there room-declared e shapes-fit =
-        let v = store names facts contexts orders heads in
+    string : (n D : ℕ) (c : Counts) (s : State) (rs : List Row) (decls : Declarations) (end : ℕ)
+        (ready : Ready file refs v (v .declared) n c s rs decls end) → D < c .definitions → n ≤ maxDeclarations
+        → Entered s rs (ready .worlds .runs) (v .facts) D k numbers currents outers → ShapesFit shapes
+        → Strung (ownTerm file refs (v .facts) decls k numbers currents outers) shapes end out room fits len
+    string n D c s rs decls end ready there room-declared e shapes-fit =
         let here = e .each k (omega arith) in
-        let small = params-small file refs v declared n D c s rs decls end ready there k (getD currents k 0) (getD outers k 0) (rowOf numbers k) here in
+        let small = params-small file refs v (v .declared) n D c s rs decls end ready there k (getD currents k 0) (getD outers k 0) (rowOf numbers k) here in
         let f : cur ≡ getD currents k 0 =
-        a .same (cur-small file refs v declared n D c s rs decls end ready there k (getD currents k 0) (getD outers k 0) (rowOf numbers k) here) in
+        a .same (cur-small file refs v (v .declared) n D c s rs decls end ready there k (getD currents k 0) (getD outers k 0) (rowOf numbers k) here) in
         let m = paramsOf s D in
-        let few = own-few file refs v declared n D c s rs decls end ready there room-declared k numbers currents outers e in
+        let few = own-few file refs v (v .declared) n D c s rs decls end ready there room-declared k numbers currents outers e in
         let narrow =
-        narrow-near s decls (worldOf rs D) m (ownTerm file refs facts decls k numbers currents outers) (shapesOf shapes)
-        (own-narrow file refs v declared n D c s rs decls end ready there room-declared k numbers currents outers e) few in
-        text-strung file refs names declared shapes s decls (worldOf rs D) D D m k (getD outers k 0) (rowOf numbers k) end out room fits len small
-        (omega (arith, ready .numbered)) (ready .codes .named) shapes-fit (firstAt facts (getD currents k 0))
-        (own-text file refs v declared n D c s rs decls end ready there room-declared k numbers currents outers e sizes) narrow
-        (text-at file refs names declared row (rowOf numbers k) shapes at (firstAt facts (getD currents k 0)) k outer (getD outers k 0) out room fits len q (p ∙ ap (firstAt facts) f)
+        narrow-near s decls (worldOf rs D) m (ownTerm file refs (v .facts) decls k numbers currents outers) (shapesOf shapes)
+        (own-narrow file refs v (v .declared) n D c s rs decls end ready there room-declared k numbers currents outers e) few in
+        text-strung file refs (v .names) (v .declared) shapes s decls (worldOf rs D) D D m k (getD outers k 0) (rowOf numbers k) end out room fits len small
+        (omega (arith, ready .numbered)) (ready .codes .named) shapes-fit (firstAt (v .facts) (getD currents k 0))
+        (own-text file refs v (v .declared) n D c s rs decls end ready there room-declared k numbers currents outers e sizes) narrow
+        (text-at file refs (v .names) (v .declared) row (rowOf numbers k) shapes at (firstAt (v .facts) (getD currents k 0)) k outer (getD outers k 0) out room fits len q (p ∙ ap (firstAt (v .facts)) f)
         (b .same small) x)
 
 -- what is written, or else what the name means
-module _ (file refs names facts contexts heads declared row shapes : List ℕ) (site : Site) (level e : ℕ) (out : List ℕ) (room : ℕ) (fits : Bool) (len o x : ℕ) (w : Writing)
-    (p : o ≡ getD declared e 0) (q : x ≡ getD names o 0) (found-there : w ≡ writtenAt (site .count) file (site .start) x) where
-  name-there : x ≡ getD names (getD declared e 0) 0
-  name-there = q ∙ ap (λ (i : ℕ). getD names i 0) p
+module _ (file refs : List ℕ) (v : Store) (row shapes : List ℕ) (site : Site) (level e : ℕ) (out : List ℕ) (room : ℕ) (fits : Bool) (len o x : ℕ) (w : Writing)
+    (p : o ≡ getD (v .declared) e 0) (q : x ≡ getD (v .names) o 0) (found-there : w ≡ writtenAt (site .count) file (site .start) x) where
+  name-there : x ≡ getD (v .names) (getD (v .declared) e 0) 0
+  name-there = q ∙ ap (λ (i : ℕ). getD (v .names) i 0) p
 
-  by-writing : (y : Writing) → w ≡ y → SubstitutedBy file refs names facts contexts heads declared row shapes site level e out room fits len y
-      → SubstituteString file refs names facts contexts heads declared row shapes site level e out room fits len
+  by-writing : (y : Writing) → w ≡ y → SubstitutedBy file refs v row shapes site level e out room fits len y
+      → SubstituteString file refs v row shapes site level e out room fits len
   by-writing y f z =
       record {
         by =
-            subst (λ (k : Writing). SubstitutedBy file refs names facts contexts heads declared row shapes site level e out room fits len k)
+            subst (λ (k : Writing). SubstitutedBy file refs v row shapes site level e out room fits len k)
             (sym f ∙ found-there ∙ ap (writtenAt (site .count) file (site .start)) name-there) z;
       }
 
-  pub substituted-written : (at : ℕ) → w ≡ Written at → TextString file refs names declared row shapes at level (site .outer) out room fits len
-      → SubstituteString file refs names facts contexts heads declared row shapes site level e out room fits len
+  pub substituted-written : (at : ℕ) → w ≡ Written at → TextString file refs (v .names) (v .declared) row shapes at level (site .outer) out room fits len
+      → SubstituteString file refs v row shapes site level e out room fits len
   substituted-written at f z = by-writing (Written at) f z
 
-  pub substituted-implied : (r n k : ℕ) → w ≡ Unwritten → r ≡ impliedRef names facts contexts heads (site .owner) x → n ≡ kindAt facts o → k ≡ argumentsOf n
-      → ImpliedString names declared row shapes r level (site .outer) (site .params) k out room fits len
-      → SubstituteString file refs names facts contexts heads declared row shapes site level e out room fits len
+  pub substituted-implied : (r n k : ℕ) → w ≡ Unwritten → r ≡ impliedRef (v .names) (v .facts) (v .contexts) (v .heads) (site .owner) x → n ≡ kindAt (v .facts) o → k ≡ argumentsOf n
+      → ImpliedString (v .names) (v .declared) row shapes r level (site .outer) (site .params) k out room fits len
+      → SubstituteString file refs v row shapes site level e out room fits len
   substituted-implied r n k f i j h z =
       by-writing Unwritten f
       (subst
-      (λ (y : ℕ). ImpliedString names declared row shapes y level (site .outer) (site .params) (argumentsOf (kindAt facts (getD declared e 0))) out room fits len)
-      (i ∙ ap (impliedRef names facts contexts heads (site .owner)) name-there)
-      (subst (λ (y : ℕ). ImpliedString names declared row shapes r level (site .outer) (site .params) y out room fits len)
-      (h ∙ ap argumentsOf (j ∙ ap (kindAt facts) p)) z))
+      (λ (y : ℕ). ImpliedString (v .names) (v .declared) row shapes y level (site .outer) (site .params) (argumentsOf (kindAt (v .facts) (getD (v .declared) e 0))) out room fits len)
+      (i ∙ ap (impliedRef (v .names) (v .facts) (v .contexts) (v .heads) (site .owner)) name-there)
+      (subst (λ (y : ℕ). ImpliedString (v .names) (v .declared) row shapes r level (site .outer) (site .params) y out room fits len)
+      (h ∙ ap argumentsOf (j ∙ ap (kindAt (v .facts)) p)) z))
 
-pub link-there : (file refs names facts contexts heads declared row shapes : List ℕ) (cur outer o level e : ℕ) (site : Site) (out : List ℕ) (room : ℕ) (fits : Bool) (len : ℕ)
-    → o ≡ codeAt facts cur → site ≡ siteOf facts outer o
-    → SubstituteString file refs names facts contexts heads declared row shapes site level e out room fits len
-    → LinkString file refs names facts contexts heads declared row shapes cur outer level e out room fits len
-link-there file refs names facts contexts heads declared row shapes cur outer o level e site out room fits len p q x =
+pub link-there : (file refs : List ℕ) (v : Store) (row shapes : List ℕ) (cur outer o level e : ℕ) (site : Site) (out : List ℕ) (room : ℕ) (fits : Bool) (len : ℕ)
+    → o ≡ codeAt (v .facts) cur → site ≡ siteOf (v .facts) outer o
+    → SubstituteString file refs v row shapes site level e out room fits len
+    → LinkString file refs v row shapes cur outer level e out room fits len
+link-there file refs v row shapes cur outer o level e site out room fits len p q x =
     record {
       through = λ h.
-          subst (λ (y : Site). SubstituteString file refs names facts contexts heads declared row shapes y level e out room fits len) (q ∙ ap (siteOf facts outer) p) x;
+          subst (λ (y : Site). SubstituteString file refs v row shapes y level e out room fits len) (q ∙ ap (siteOf (v .facts) outer) p) x;
     }
 
-pub link-none : (file refs names facts contexts heads declared row shapes : List ℕ) (cur outer level e : ℕ) (out : List ℕ) (room : ℕ) (fits : Bool) (len : ℕ)
-    → stepFits facts outer cur ≡ false → LinkString file refs names facts contexts heads declared row shapes cur outer level e out room fits len
-link-none file refs names facts contexts heads declared row shapes cur outer level e out room fits len f =
+pub link-none : (file refs : List ℕ) (v : Store) (row shapes : List ℕ) (cur outer level e : ℕ) (out : List ℕ) (room : ℕ) (fits : Bool) (len : ℕ)
+    → stepFits (v .facts) outer cur ≡ false → LinkString file refs v row shapes cur outer level e out room fits len
+link-none file refs v row shapes cur outer level e out room fits len f =
     record {
-      through = λ (h : stepFits facts outer cur ≡ true). absurd (let z : _≡_ {A = Bool} true false = sym h ∙ f in let y : _≡_ {A = ℕ} 0 1 = cc in omega arith);
+      through = λ (h : stepFits (v .facts) outer cur ≡ true). absurd (let z : _≡_ {A = Bool} true false = sym h ∙ f in let y : _≡_ {A = ℕ} 0 1 = cc in omega arith);
     }
 
-link-at : (file refs names facts contexts heads declared row row′ shapes : List ℕ) (cur cur′ outer outer′ level e : ℕ) (out : List ℕ) (room : ℕ) (fits : Bool) (len : ℕ)
-    → row ≡ row′ → cur ≡ cur′ → outer ≡ outer′ → LinkString file refs names facts contexts heads declared row shapes cur outer level e out room fits len
-    → LinkString file refs names facts contexts heads declared row′ shapes cur′ outer′ level e out room fits len
-link-at file refs names facts contexts heads declared row row′ shapes cur cur′ outer outer′ level e out room fits len p q r x =
-    subst (λ (y : ℕ). LinkString file refs names facts contexts heads declared row′ shapes cur′ y level e out room fits len) r
-    (subst (λ (y : ℕ). LinkString file refs names facts contexts heads declared row′ shapes y outer level e out room fits len) q
-    (subst (λ (y : List ℕ). LinkString file refs names facts contexts heads declared y shapes cur outer level e out room fits len) p x))
+link-at : (file refs : List ℕ) (v : Store) (row row′ shapes : List ℕ) (cur cur′ outer outer′ level e : ℕ) (out : List ℕ) (room : ℕ) (fits : Bool) (len : ℕ)
+    → row ≡ row′ → cur ≡ cur′ → outer ≡ outer′ → LinkString file refs v row shapes cur outer level e out room fits len
+    → LinkString file refs v row′ shapes cur′ outer′ level e out room fits len
+link-at file refs v row row′ shapes cur cur′ outer outer′ level e out room fits len p q r x =
+    subst (λ (y : ℕ). LinkString file refs v row′ shapes cur′ y level e out room fits len) r
+    (subst (λ (y : ℕ). LinkString file refs v row′ shapes y outer level e out room fits len) q
+    (subst (λ (y : List ℕ). LinkString file refs v y shapes cur outer level e out room fits len) p x))
 
-module _ (file refs names facts contexts heads declared numbers currents outers shapes : List ℕ) (l e : ℕ) (out : List ℕ) (room : ℕ) (fits : Bool) (len : ℕ)
-    (x : LinkString file refs names facts contexts heads declared (rowOf numbers l) shapes (getD currents l 0) (getD outers l 0) l e out room fits len)
-    (orders : List ℕ) (n D : ℕ) (c : Counts) (s : State) (rs : List Row) (decls : Declarations) (end : ℕ)
-    (ready : Ready file refs (store names facts contexts orders heads) declared n c s rs decls end) (there : D < c .definitions) (few : n ≤ maxDeclarations) (k : ℕ)
-    (chain : Entered s rs (ready .worlds .runs) facts D k numbers currents outers) (on : l < k) (named : NamedIn decls (outermost (suc l) (worldOf rs D)) e)
+module _ (file refs : List ℕ) (v : Store) (numbers currents outers shapes : List ℕ) (l e : ℕ) (out : List ℕ) (room : ℕ) (fits : Bool) (len : ℕ)
+    (x : LinkString file refs v (rowOf numbers l) shapes (getD currents l 0) (getD outers l 0) l e out room fits len)
+    (n D : ℕ) (c : Counts) (s : State) (rs : List Row) (decls : Declarations) (end : ℕ)
+    (ready : Ready file refs v (v .declared) n c s rs decls end) (there : D < c .definitions) (few : n ≤ maxDeclarations) (k : ℕ)
+    (chain : Entered s rs (ready .worlds .runs) (v .facts) D k numbers currents outers) (on : l < k) (named : NamedIn decls (outermost (suc l) (worldOf rs D)) e)
     (shapes-fit : ShapesFit shapes) where
-  abbrev v : Store
-  v = store names facts contexts orders heads
-
   abbrev kind : Kind
   kind = getD decls e noDeclaration .0
 
@@ -216,70 +212,69 @@ module _ (file refs names facts contexts heads declared numbers currents outers 
   name = getD decls e noDeclaration .1
 
   abbrev site : Site
-  site = siteOf facts (getD outers l 0) (codeAt facts (getD currents l 0))
+  site = siteOf (v .facts) (getD outers l 0) (codeAt (v .facts) (getD currents l 0))
 
   abbrev call : ℕ
   call = standIn (suc l) (maxDefinitions + e)
 
   abbrev arity : ℕ
-  arity = outerAfter facts (getD outers l 0) (getD currents l 0) + kindArity kind
+  arity = outerAfter (v .facts) (getD outers l 0) (getD currents l 0) + kindArity kind
 
   here : AtLevel s rs (ready .worlds .runs) D l (getD currents l 0) (getD outers l 0) (rowOf numbers l)
   here = chain .each l (omega arith)
 
   small : getD outers l 0 ≤ maxArity
-  small = params-small file refs v declared n D c s rs decls end ready there l (getD currents l 0) (getD outers l 0) (rowOf numbers l) here
+  small = params-small file refs v (v .declared) n D c s rs decls end ready there l (getD currents l 0) (getD outers l 0) (rowOf numbers l) here
 
-  named-there : getD names (getD declared e 0) 0 ≡ name
+  named-there : getD (v .names) (getD (v .declared) e 0) 0 ≡ name
   named-there = ready .codes .named e (named .0)
 
   few-arguments : kindArity kind ≤ maxArity
   few-arguments = ready .codes .few e (named .0)
 
-  arguments-there : argumentsOf (kindAt facts (getD declared e 0)) ≡ kindArity kind
+  arguments-there : argumentsOf (kindAt (v .facts) (getD (v .declared) e 0)) ≡ kindArity kind
   arguments-there = ap argumentsOf (ready .codes .kind e (named .0)) ∙ count-kind kind few-arguments
 
   by-string : (y : Writing) → UnfoldsBy sizes file refs v s decls (worldOf rs D) D call arity l (getD outers l 0) (rowOf numbers l) end (site .owner) (site .params) kind name y
       → Narrow (spell (shapesOf shapes) (writtenTerm file refs v decls (placeIn numbers outers l) site kind name y))
-      → SubstitutedBy file refs names facts contexts heads declared (rowOf numbers l) shapes site l e out room fits len y
+      → SubstitutedBy file refs v (rowOf numbers l) shapes site l e out room fits len y
       → Strung (writtenTerm file refs v decls (placeIn numbers outers l) site kind name y) shapes end out room fits len
   by-string (Written at) u narrow z =
-      text-strung file refs names declared shapes s decls (worldOf rs D) D call arity l (getD outers l 0) (rowOf numbers l) end out room fits len small
+      text-strung file refs (v .names) (v .declared) shapes s decls (worldOf rs D) D call arity l (getD outers l 0) (rowOf numbers l) end out room fits len small
       (omega (arith, ready .numbered)) (ready .codes .named) shapes-fit at u narrow z
   by-string Unwritten u narrow z =
-      implied-strung file refs names declared shapes s decls (worldOf rs D) D call arity l (getD outers l 0) (rowOf numbers l) end out room fits len small
-      (omega (arith, ready .numbered)) (ready .codes .named) shapes-fit (site .params) (kindArity kind) (impliedRef names facts contexts heads (site .owner) name) few-arguments
+      implied-strung file refs (v .names) (v .declared) shapes s decls (worldOf rs D) D call arity l (getD outers l 0) (rowOf numbers l) end out room fits len small
+      (omega (arith, ready .numbered)) (ready .codes .named) shapes-fit (site .params) (kindArity kind) (impliedRef (v .names) (v .facts) (v .contexts) (v .heads) (site .owner) name) few-arguments
       (u .below) narrow
       (subst
-      (λ (i : ℕ). ImpliedString names declared (rowOf numbers l) shapes (impliedRef names facts contexts heads (site .owner) i) l (getD outers l 0) (site .params) (kindArity kind) out room
+      (λ (i : ℕ). ImpliedString (v .names) (v .declared) (rowOf numbers l) shapes (impliedRef (v .names) (v .facts) (v .contexts) (v .heads) (site .owner) i) l (getD outers l 0) (site .params) (kindArity kind) out room
       fits len) named-there
       (subst
-      (λ (i : ℕ). ImpliedString names declared (rowOf numbers l) shapes (impliedRef names facts contexts heads (site .owner) (getD names (getD declared e 0) 0)) l (getD outers l 0)
+      (λ (i : ℕ). ImpliedString (v .names) (v .declared) (rowOf numbers l) shapes (impliedRef (v .names) (v .facts) (v .contexts) (v .heads) (site .owner) (getD (v .names) (getD (v .declared) e 0) 0)) l (getD outers l 0)
       (site .params) i out room fits len) arguments-there z))
 
   standin-strung : Strung (standInTerm file refs v decls numbers currents outers l e) shapes end out room fits len
   standin-strung =
       by-string (writtenAt (site .count) file (site .start) name)
-      (standin-by file refs v declared n D c s rs decls end ready there few k numbers currents outers chain l e on named sizes)
+      (standin-by file refs v (v .declared) n D c s rs decls end ready there few k numbers currents outers chain l e on named sizes)
       (narrow-near s decls (worldOf rs D) arity (standInTerm file refs v decls numbers currents outers l e) (shapesOf shapes)
-      (standin-narrow file refs v declared n D c s rs decls end ready there few k numbers currents outers chain l e on named)
-      (standin-few file refs v declared n D c s rs decls end ready there few k numbers currents outers chain l e on named))
+      (standin-narrow file refs v (v .declared) n D c s rs decls end ready there few k numbers currents outers chain l e on named)
+      (standin-few file refs v (v .declared) n D c s rs decls end ready there few k numbers currents outers chain l e on named))
       (subst
-      (λ (i : ℕ). SubstitutedBy file refs names facts contexts heads declared (rowOf numbers l) shapes site l e out room fits len (writtenAt (site .count) file (site .start) i))
+      (λ (i : ℕ). SubstitutedBy file refs v (rowOf numbers l) shapes site l e out room fits len (writtenAt (site .count) file (site .start) i))
       named-there (x .through (chain .on l on) .by))
 
-pub standin-string : (file refs names facts contexts heads declared numbers currents outers shapes : List ℕ) (l e cur outer : ℕ) (row out : List ℕ) (room : ℕ) (fits : Bool)
+pub standin-string : (file refs : List ℕ) (v : Store) (numbers currents outers shapes : List ℕ) (l e cur outer : ℕ) (row out : List ℕ) (room : ℕ) (fits : Bool)
     (len : ℕ) → Clamped 255 (getD currents l 0) cur → Clamped maxArity (getD outers l 0) outer → row ≡ rowOf numbers l
-    → LinkString file refs names facts contexts heads declared row shapes cur outer l e out room fits len
-    → StandInString file refs names facts contexts heads declared numbers currents outers shapes l e out room fits len
-standin-string file refs names facts contexts heads declared numbers currents outers shapes l e cur outer row out room fits len a b q x =
+    → LinkString file refs v row shapes cur outer l e out room fits len
+    → StandInString file refs v numbers currents outers shapes l e out room fits len
+standin-string file refs v numbers currents outers shapes l e cur outer row out room fits len a b q x =
     record {
-      string = λ orders n D c s rs decls end ready there few k chain on named shapes-fit.
-          let v = store names facts contexts orders heads in
+      string = λ n D c s rs decls end ready there few k chain on named shapes-fit.
           let here = chain .each l (omega (arith, on)) in
-          standin-strung file refs names facts contexts heads declared numbers currents outers shapes l e out room fits len
-          (link-at file refs names facts contexts heads declared row (rowOf numbers l) shapes cur (getD currents l 0) outer (getD outers l 0) l e out room fits len q
-          (a .same (cur-small file refs v declared n D c s rs decls end ready there l (getD currents l 0) (getD outers l 0) (rowOf numbers l) here))
-          (b .same (params-small file refs v declared n D c s rs decls end ready there l (getD currents l 0) (getD outers l 0) (rowOf numbers l) here)) x) orders n D c s rs decls end
+          standin-strung file refs v numbers currents outers shapes l e out room fits len
+          (link-at file refs v row (rowOf numbers l) shapes cur (getD currents l 0) outer (getD outers l 0) l e out room fits len q
+          (a .same (cur-small file refs v (v .declared) n D c s rs decls end ready there l (getD currents l 0) (getD outers l 0) (rowOf numbers l) here))
+          (b .same (params-small file refs v (v .declared) n D c s rs decls end ready there l (getD currents l 0) (getD outers l 0) (rowOf numbers l) here)) x) n D c s rs decls end
           ready there few k chain on named shapes-fit;
     }

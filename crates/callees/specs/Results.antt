@@ -10,7 +10,7 @@ use Rattle.theory.specs.Term.{Term}
 use Rattle.symbols.specs.Spell.{maxParams, spell}
 use Rattle.rules.specs.State.{State}
 use Rattle.texts.specs.Text.{Declarations}
-use Rattle.context.specs.Store.{kindAt, store}
+use Rattle.store.specs.Store.{Store, kindAt}
 use Rattle.context.specs.declared.Counts.{Counts}
 use Rattle.worlds.specs.Rows.{Row, worldOf}
 use Rattle.entering.specs.Implied.{argumentsOf, impliedRef}
@@ -41,33 +41,33 @@ pub record Strung (t : Term) (shapes : List ℕ) (end : ℕ) (out : List ℕ) (r
   pub whole : growth * end ≤ 2 * room → impliedBytes ≤ room → fits ≡ true
 
 -- the string of the text at the end of the chain that the arrays hold, whatever stands
-pub record OwnString (file refs names facts declared numbers currents outers shapes : List ℕ) (k : ℕ) (out : List ℕ) (room : ℕ) (fits : Bool) (len : ℕ) : Type 0 where
+pub record OwnString (file refs : List ℕ) (v : Store) (numbers currents outers shapes : List ℕ) (k : ℕ) (out : List ℕ) (room : ℕ) (fits : Bool) (len : ℕ) : Type 0 where
   pub told : fits ≡ leb len room
-  pub string : (contexts orders heads : List ℕ) (n D : ℕ) (c : Counts) (s : State) (rs : List Row) (decls : Declarations) (end : ℕ)
-      (ready : Ready file refs (store names facts contexts orders heads) declared n c s rs decls end) → D < c .definitions → n ≤ maxDeclarations
-      → Entered s rs (ready .worlds .runs) facts D k numbers currents outers → ShapesFit shapes
-      → Strung (ownTerm file refs facts decls k numbers currents outers) shapes end out room fits len
+  pub string : (n D : ℕ) (c : Counts) (s : State) (rs : List Row) (decls : Declarations) (end : ℕ)
+      (ready : Ready file refs v (v .declared) n c s rs decls end) → D < c .definitions → n ≤ maxDeclarations
+      → Entered s rs (ready .worlds .runs) (v .facts) D k numbers currents outers → ShapesFit shapes
+      → Strung (ownTerm file refs (v .facts) decls k numbers currents outers) shapes end out room fits len
 
 -- what is written for declaration e at an INSTANCE field, or what its name means there
-abbrev pub SubstitutedBy : List ℕ → List ℕ → List ℕ → List ℕ → List ℕ → List ℕ → List ℕ → List ℕ → List ℕ → Site → ℕ → ℕ → List ℕ → ℕ → Bool → ℕ → Writing → Type 0
-SubstitutedBy file refs names facts contexts heads declared row shapes site level e out room fits len (Written at) =
-    TextString file refs names declared row shapes at level (site .outer) out room fits len
-SubstitutedBy file refs names facts contexts heads declared row shapes site level e out room fits len Unwritten =
-    ImpliedString names declared row shapes (impliedRef names facts contexts heads (site .owner) (getD names (getD declared e 0) 0)) level (site .outer) (site .params)
-    (argumentsOf (kindAt facts (getD declared e 0))) out room fits len
+abbrev pub SubstitutedBy : List ℕ → List ℕ → Store → List ℕ → List ℕ → Site → ℕ → ℕ → List ℕ → ℕ → Bool → ℕ → Writing → Type 0
+SubstitutedBy file refs v row shapes site level e out room fits len (Written at) =
+    TextString file refs (v .names) (v .declared) row shapes at level (site .outer) out room fits len
+SubstitutedBy file refs v row shapes site level e out room fits len Unwritten =
+    ImpliedString (v .names) (v .declared) row shapes (impliedRef (v .names) (v .facts) (v .contexts) (v .heads) (site .owner) (getD (v .names) (getD (v .declared) e 0) 0)) level (site .outer) (site .params)
+    (argumentsOf (kindAt (v .facts) (getD (v .declared) e 0))) out room fits len
 
-pub record SubstituteString (file refs names facts contexts heads declared row shapes : List ℕ) (site : Site) (level e : ℕ) (out : List ℕ) (room : ℕ) (fits : Bool) (len : ℕ) : Type 0 where
-  pub by : SubstitutedBy file refs names facts contexts heads declared row shapes site level e out room fits len
-      (writtenAt (site .count) file (site .start) (getD names (getD declared e 0) 0))
+pub record SubstituteString (file refs : List ℕ) (v : Store) (row shapes : List ℕ) (site : Site) (level e : ℕ) (out : List ℕ) (room : ℕ) (fits : Bool) (len : ℕ) : Type 0 where
+  pub by : SubstitutedBy file refs v row shapes site level e out room fits len
+      (writtenAt (site .count) file (site .start) (getD (v .names) (getD (v .declared) e 0) 0))
 
 -- at the INSTANCE field that brought definition cur
-pub record LinkString (file refs names facts contexts heads declared row shapes : List ℕ) (cur outer level e : ℕ) (out : List ℕ) (room : ℕ) (fits : Bool) (len : ℕ) : Type 0 where
-  pub through : stepFits facts outer cur ≡ true
-      → SubstituteString file refs names facts contexts heads declared row shapes (siteOf facts outer (codeAt facts cur)) level e out room fits len
+pub record LinkString (file refs : List ℕ) (v : Store) (row shapes : List ℕ) (cur outer level e : ℕ) (out : List ℕ) (room : ℕ) (fits : Bool) (len : ℕ) : Type 0 where
+  pub through : stepFits (v .facts) outer cur ≡ true
+      → SubstituteString file refs v row shapes (siteOf (v .facts) outer (codeAt (v .facts) cur)) level e out room fits len
 
 -- the string of what stands for declaration e one level further in than l, whatever stands
-pub record StandInString (file refs names facts contexts heads declared numbers currents outers shapes : List ℕ) (l e : ℕ) (out : List ℕ) (room : ℕ) (fits : Bool) (len : ℕ) : Type 0 where
-  pub string : (orders : List ℕ) (n D : ℕ) (c : Counts) (s : State) (rs : List Row) (decls : Declarations) (end : ℕ)
-      (ready : Ready file refs (store names facts contexts orders heads) declared n c s rs decls end) → D < c .definitions → n ≤ maxDeclarations
-      → (k : ℕ) → Entered s rs (ready .worlds .runs) facts D k numbers currents outers → l < k → NamedIn decls (outermost (suc l) (worldOf rs D)) e → ShapesFit shapes
-      → Strung (standInTerm file refs (store names facts contexts orders heads) decls numbers currents outers l e) shapes end out room fits len
+pub record StandInString (file refs : List ℕ) (v : Store) (numbers currents outers shapes : List ℕ) (l e : ℕ) (out : List ℕ) (room : ℕ) (fits : Bool) (len : ℕ) : Type 0 where
+  pub string : (n D : ℕ) (c : Counts) (s : State) (rs : List Row) (decls : Declarations) (end : ℕ)
+      (ready : Ready file refs v (v .declared) n c s rs decls end) → D < c .definitions → n ≤ maxDeclarations
+      → (k : ℕ) → Entered s rs (ready .worlds .runs) (v .facts) D k numbers currents outers → l < k → NamedIn decls (outermost (suc l) (worldOf rs D)) e → ShapesFit shapes
+      → Strung (standInTerm file refs v decls numbers currents outers l e) shapes end out room fits len

@@ -9,7 +9,7 @@ use Rattle.limits.specs.Limits.{maxDeclarations, maxDefinitions, maxModules}
 use Rattle.rules.specs.State.{State}
 use Rattle.laws.proofs.Within.{Within}
 use Rattle.texts.specs.Text.{Declarations}
-use Rattle.context.specs.Store.{sourceAt, store}
+use Rattle.store.specs.Store.{Store, sourceAt}
 use Rattle.context.specs.declared.Counts.{Counts}
 use Rattle.worlds.specs.Rows.{Row}
 use Rattle.worlds.proofs.Depth.{Depths}
@@ -49,8 +49,8 @@ pub record ChainStarted (D : ℕ) (numbers currents outers : List ℕ) : Type 0 
   pub outer : getD outers 0 0 ≡ 0
 
 -- k is, whatever stands, the number of links of the chain of definition D, and the arrays hold it.
-pub record ChainEntered (facts orders heads : List ℕ) (D k : ℕ) (numbers currents outers : List ℕ) : Type 0 where
+pub record ChainEntered (v : Store) (D k : ℕ) (numbers currents outers : List ℕ) : Type 0 where
   pub few : k ≤ maxLinks
-  pub chain : (file refs names contexts declared : List ℕ) (n : ℕ) (c : Counts) (s : State) (rs : List Row) (decls : Declarations) (end : ℕ)
-      (ready : Ready file refs (store names facts contexts orders heads) declared n c s rs decls end) → D < c .definitions → n ≤ maxDeclarations → Within s → Depths s rs
-      → Entered s rs (ready .worlds .runs) facts D k numbers currents outers
+  pub chain : (file refs : List ℕ) (n : ℕ) (c : Counts) (s : State) (rs : List Row) (decls : Declarations) (end : ℕ)
+      (ready : Ready file refs v (v .declared) n c s rs decls end) → D < c .definitions → n ≤ maxDeclarations → Within s → Depths s rs
+      → Entered s rs (ready .worlds .runs) (v .facts) D k numbers currents outers

@@ -8,12 +8,14 @@ use chains::world::outer_after;
 use chains::world::source_of;
 use chains::world::step_fits;
 use limits::Limits;
+use store::Store;
 ghost use mathlib.Core.Bool.{true};
 ghost use mathlib.Core.Path.{_≡_};
 ghost use Prim.Native.Nat.{_+_, _*_, _≤_, _<_};
 ghost use lib.ListN.{getD, length};
 ghost use Rattle.limits.specs.Limits.{maxArity, maxDefinitions, maxModules};
-ghost use Rattle.context.specs.Store.{wordCount};
+ghost use Rattle.store.specs.Store.{held};
+ghost use Rattle.context.specs.Entries.{wordCount};
 ghost use Rattle.chains.specs.Walk.{linkFits, stepFits};
 ghost use Rattle.unfolding.specs.CalleeTerm.{maxLinks, rowOf};
 ghost use Rattle.callees.specs.Walk.{ChainEntered, ChainStarted, LevelEntered, RowEntered, RowPut, Sized, goesOn};
@@ -38,54 +40,44 @@ fn put_row(row: &[u16], numbers: &mut [u16], l: usize)
 }
 
 // The table of numbers at level l + 1: that of level l one instance further in, by the INSTANCE field of code o.
-fn enter_row(
-    facts: &[u16],
-    orders: &[u16],
-    heads: &[u16],
-    numbers: &mut [u16],
-    l: usize,
-    outer: usize,
-    o: usize,
-)
-    requires { ⌜ (length (now numbers) ≡ maxDefinitions * maxModules) × (l < maxLinks) × (o ≤ 2 * wordCount) × (linkFits (now facts) outer o ≡ true) ⌝ }
-    ensures { λ r. ⌜ RowEntered (now (facts .entry)) (now (orders .entry)) (now (heads .entry)) o l (now (numbers .entry)) (now (numbers .exit)) ⌝ }
+fn enter_row(store: &[u16; Store::LENGTH], numbers: &mut [u16], l: usize, outer: usize, o: usize)
+    requires { ⌜ (length (now numbers) ≡ maxDefinitions * maxModules) × (l < maxLinks) × (o ≤ 2 * wordCount) × (linkFits (held (now store) .facts) outer o ≡ true) ⌝ }
+    ensures { λ r. ⌜ RowEntered (held (now (store .entry)) .facts) (held (now (store .entry)) .orders) (held (now (store .entry)) .heads) o l (now (numbers .entry)) (now (numbers .exit)) ⌝ }
 {
     let mut row = [0u16; Limits::DEFINITIONS];
     read_row(numbers, l, &mut row);
-    enter_link_numbers(facts, orders, heads, &mut row, outer, o);
+    enter_link_numbers(store, &mut row, outer, o);
     put_row(&row, numbers, l + 1);
 }
 
 // One level further in.
 fn enter_level(
-    facts: &[u16],
-    orders: &[u16],
-    heads: &[u16],
+    store: &[u16; Store::LENGTH],
     numbers: &mut [u16],
     currents: &mut [u16],
     outers: &mut [u16],
     l: usize,
 )
-    requires { ⌜ Sized (now numbers) (now currents) (now outers) × (l < maxLinks) × (getD (now currents) l 0 < maxDefinitions) × (getD (now outers) l 0 ≤ maxArity) × (stepFits (now facts) (getD (now outers) l 0) (getD (now currents) l 0) ≡ true) ⌝ }
-    ensures { λ r. ⌜ LevelEntered (now (facts .entry)) (now (orders .entry)) (now (heads .entry)) l (now (numbers .entry)) (now (numbers .exit)) (now (currents .entry)) (now (currents .exit)) (now (outers .entry)) (now (outers .exit)) ⌝ }
+    requires { ⌜ Sized (now numbers) (now currents) (now outers) × (l < maxLinks) × (getD (now currents) l 0 < maxDefinitions) × (getD (now outers) l 0 ≤ maxArity) × (stepFits (held (now store) .facts) (getD (now outers) l 0) (getD (now currents) l 0) ≡ true) ⌝ }
+    ensures { λ r. ⌜ LevelEntered (held (now (store .entry)) .facts) (held (now (store .entry)) .orders) (held (now (store .entry)) .heads) l (now (numbers .entry)) (now (numbers .exit)) (now (currents .entry)) (now (currents .exit)) (now (outers .entry)) (now (outers .exit)) ⌝ }
 {
     let cur = currents[l] as usize;
     let outer = outers[l] as usize;
-    let o = code_of(facts, cur);
-    enter_row(facts, orders, heads, numbers, l, outer, o);
-    let source = source_of(facts, cur);
-    let around = outer_after(facts, outer, cur);
+    let o = code_of(store, cur);
+    enter_row(store, numbers, l, outer, o);
+    let source = source_of(store, cur);
+    let around = outer_after(store, outer, cur);
     currents[l + 1] = source as u16;
     outers[l + 1] = around as u16;
 }
 
 // Whether a step is made from level l.
-fn goes_on(facts: &[u16], currents: &[u16], outers: &[u16], l: usize) -> bool
+fn goes_on(store: &[u16; Store::LENGTH], currents: &[u16], outers: &[u16], l: usize) -> bool
     requires { ⌜ (l < length (now currents)) × (l < length (now outers)) × (getD (now currents) l 0 < maxDefinitions) × (getD (now outers) l 0 ≤ maxArity) ⌝ }
-    ensures { λ r. ⌜ r ≡ goesOn (now (facts .entry)) (now (currents .entry)) (now (outers .entry)) l ⌝ }
+    ensures { λ r. ⌜ r ≡ goesOn (held (now (store .entry)) .facts) (now (currents .entry)) (now (outers .entry)) l ⌝ }
 {
     if l < Limits::MODULES - 1 {
-        return step_fits(facts, outers[l] as usize, currents[l] as usize);
+        return step_fits(store, outers[l] as usize, currents[l] as usize);
     }
     false
 }
@@ -104,21 +96,19 @@ fn start_chain(d: usize, numbers: &mut [u16], currents: &mut [u16], outers: &mut
 
 // All levels of the chain of definition d; how many links it has.
 pub fn enter_chain(
-    facts: &[u16],
-    orders: &[u16],
-    heads: &[u16],
+    store: &[u16; Store::LENGTH],
     d: usize,
     numbers: &mut [u16],
     currents: &mut [u16],
     outers: &mut [u16],
 ) -> usize
     requires { ⌜ Sized (now numbers) (now currents) (now outers) × (d < maxDefinitions) ⌝ }
-    ensures { λ r. ⌜ ChainEntered (now (facts .entry)) (now (orders .entry)) (now (heads .entry)) d r (now (numbers .exit)) (now (currents .exit)) (now (outers .exit)) ⌝ }
+    ensures { λ r. ⌜ ChainEntered (held (now (store .entry))) d r (now (numbers .exit)) (now (currents .exit)) (now (outers .exit)) ⌝ }
 {
     start_chain(d, numbers, currents, outers);
     let mut l: usize = 0;
-    while goes_on(facts, currents, outers, l) {
-        enter_level(facts, orders, heads, numbers, currents, outers, l);
+    while goes_on(store, currents, outers, l) {
+        enter_level(store, numbers, currents, outers, l);
         l += 1;
     }
     l

@@ -13,10 +13,16 @@ use limits::Limits;
 use spelling::Spelled;
 use spelling::implied_string;
 use spelling::text_string;
+use store::Lent;
+use store::Store;
+use store::reading::declared_at;
+use store::reading::fact_at;
+use store::reading::name_at;
 ghost use mathlib.Core.Path.{_≡_};
 ghost use Prim.Native.Nat.{_*_, _≤_, _<_};
 ghost use lib.ListN.{getD, length};
 ghost use Rattle.limits.specs.Limits.{maxArity, maxDefinitions, maxModules};
+ghost use Rattle.store.specs.Store.{held};
 ghost use Rattle.entering.specs.Substitutes.{Fitting};
 ghost use Rattle.callees.specs.Results.{Clamped, LinkString, OwnString, StandInString, SubstituteString};
 
@@ -31,10 +37,8 @@ fn at_most(xs: &[u16], i: usize, bound: usize) -> usize
 // The string of definition D's text, D being the definition whose chain the arrays hold, k links long.
 pub fn own_string(
     file: &[u8],
-    refs: &[u16],
-    names: &[u16],
-    facts: &[u16],
-    declared: &[u16],
+    refs: &[u16; Lent::REFS],
+    store: &[u16; Store::LENGTH],
     numbers: &[u16],
     currents: &[u16],
     outers: &[u16],
@@ -43,36 +47,21 @@ pub fn own_string(
     out: &mut [u8],
 ) -> Spelled
     requires { ⌜ (length (now numbers) ≡ maxDefinitions * maxModules) × (k < maxModules) ⌝ }
-    ensures { λ r. ⌜ OwnString (now (file .entry)) (now (refs .entry)) (now (names .entry)) (now (facts .entry)) (now (declared .entry)) (now (numbers .entry)) (now (currents .entry)) (now (outers .entry)) (now (shapes .entry)) k (now (out .exit)) (length (now (out .entry))) (r .fits) (r .len) ⌝ }
+    ensures { λ r. ⌜ OwnString (now (file .entry)) (now (refs .entry)) (held (now (store .entry))) (now (numbers .entry)) (now (currents .entry)) (now (outers .entry)) (now (shapes .entry)) k (now (out .exit)) (length (now (out .entry))) (r .fits) (r .len) ⌝ }
 {
     let cur = at_most(currents, k, Limits::DEFINITIONS - 1);
     let outer = at_most(outers, k, Limits::ARITY);
-    let at = text_of(facts, cur);
+    let at = text_of(store, cur);
     let a = Limits::DEFINITIONS * k;
     let e = a + Limits::DEFINITIONS;
-    text_string(
-        file,
-        refs,
-        names,
-        declared,
-        &numbers[a..e],
-        shapes,
-        at,
-        k,
-        outer,
-        out,
-    )
+    text_string(file, refs, store, &numbers[a..e], shapes, at, k, outer, out)
 }
 
 // The string of what is written for declaration e at an INSTANCE field, or of what its name means there.
 fn substitute_string(
     file: &[u8],
-    refs: &[u16],
-    names: &[u16],
-    facts: &[u16],
-    contexts: &[u16],
-    heads: &[u16],
-    declared: &[u16],
+    refs: &[u16; Lent::REFS],
+    store: &[u16; Store::LENGTH],
     row: &[u16],
     shapes: &[u32],
     site: Site,
@@ -81,39 +70,17 @@ fn substitute_string(
     out: &mut [u8],
 ) -> Spelled
     requires { ⌜ Fitting site × (level < maxModules) ⌝ }
-    ensures { λ r. ⌜ SubstituteString (now (file .entry)) (now (refs .entry)) (now (names .entry)) (now (facts .entry)) (now (contexts .entry)) (now (heads .entry)) (now (declared .entry)) (now (row .entry)) (now (shapes .entry)) site level e (now (out .exit)) (length (now (out .entry))) (r .fits) (r .len) ⌝ }
+    ensures { λ r. ⌜ SubstituteString (now (file .entry)) (now (refs .entry)) (held (now (store .entry))) (now (row .entry)) (now (shapes .entry)) site level e (now (out .exit)) (length (now (out .entry))) (r .fits) (r .len) ⌝ }
 {
-    let o = number_at(declared, e) as usize;
-    let name = number_at(names, o);
+    let o = declared_at(store, e) as usize;
+    let name = name_at(store, o);
     let outer = site.outer;
     match find_substitution(file, site.start, site.count, name) {
-        Writing::Written(at) => text_string(
-            file,
-            refs,
-            names,
-            declared,
-            row,
-            shapes,
-            at,
-            level,
-            outer,
-            out,
-        ),
+        Writing::Written(at) => text_string(file, refs, store, row, shapes, at, level, outer, out),
         Writing::Unwritten => {
-            let r = implied_ref(names, facts, contexts, heads, site.owner, name);
-            let k = arguments_of(number_at(facts, Limits::COLUMNS * o));
-            implied_string(
-                names,
-                declared,
-                row,
-                shapes,
-                r,
-                level,
-                outer,
-                site.params,
-                k,
-                out,
-            )
+            let r = implied_ref(store, site.owner, name);
+            let k = arguments_of(fact_at(store, Limits::COLUMNS * o));
+            implied_string(store, row, shapes, r, level, outer, site.params, k, out)
         }
     }
 }
@@ -121,12 +88,8 @@ fn substitute_string(
 // The same at the INSTANCE field that brought definition cur, with `outer` parameters around it.
 fn link_string(
     file: &[u8],
-    refs: &[u16],
-    names: &[u16],
-    facts: &[u16],
-    contexts: &[u16],
-    heads: &[u16],
-    declared: &[u16],
+    refs: &[u16; Lent::REFS],
+    store: &[u16; Store::LENGTH],
     row: &[u16],
     shapes: &[u32],
     cur: usize,
@@ -136,26 +99,12 @@ fn link_string(
     out: &mut [u8],
 ) -> Spelled
     requires { ⌜ (cur < maxDefinitions) × (outer ≤ maxArity) × (level < maxModules) ⌝ }
-    ensures { λ r. ⌜ LinkString (now (file .entry)) (now (refs .entry)) (now (names .entry)) (now (facts .entry)) (now (contexts .entry)) (now (heads .entry)) (now (declared .entry)) (now (row .entry)) (now (shapes .entry)) cur outer level e (now (out .exit)) (length (now (out .entry))) (r .fits) (r .len) ⌝ }
+    ensures { λ r. ⌜ LinkString (now (file .entry)) (now (refs .entry)) (held (now (store .entry))) (now (row .entry)) (now (shapes .entry)) cur outer level e (now (out .exit)) (length (now (out .entry))) (r .fits) (r .len) ⌝ }
 {
-    if step_fits(facts, outer, cur) {
-        let o = code_of(facts, cur);
-        let site = site_of(facts, outer, o);
-        return substitute_string(
-            file,
-            refs,
-            names,
-            facts,
-            contexts,
-            heads,
-            declared,
-            row,
-            shapes,
-            site,
-            level,
-            e,
-            out,
-        );
+    if step_fits(store, outer, cur) {
+        let o = code_of(store, cur);
+        let site = site_of(store, outer, o);
+        return substitute_string(file, refs, store, row, shapes, site, level, e, out);
     }
     Spelled {
         fits: false,
@@ -166,12 +115,8 @@ fn link_string(
 // The string of what stands for declaration e one level further in than l.
 pub fn standin_string(
     file: &[u8],
-    refs: &[u16],
-    names: &[u16],
-    facts: &[u16],
-    contexts: &[u16],
-    heads: &[u16],
-    declared: &[u16],
+    refs: &[u16; Lent::REFS],
+    store: &[u16; Store::LENGTH],
     numbers: &[u16],
     currents: &[u16],
     outers: &[u16],
@@ -181,7 +126,7 @@ pub fn standin_string(
     out: &mut [u8],
 ) -> Spelled
     requires { ⌜ (length (now numbers) ≡ maxDefinitions * maxModules) × (l < maxModules) ⌝ }
-    ensures { λ r. ⌜ StandInString (now (file .entry)) (now (refs .entry)) (now (names .entry)) (now (facts .entry)) (now (contexts .entry)) (now (heads .entry)) (now (declared .entry)) (now (numbers .entry)) (now (currents .entry)) (now (outers .entry)) (now (shapes .entry)) l e (now (out .exit)) (length (now (out .entry))) (r .fits) (r .len) ⌝ }
+    ensures { λ r. ⌜ StandInString (now (file .entry)) (now (refs .entry)) (held (now (store .entry))) (now (numbers .entry)) (now (currents .entry)) (now (outers .entry)) (now (shapes .entry)) l e (now (out .exit)) (length (now (out .entry))) (r .fits) (r .len) ⌝ }
 {
     let cur = at_most(currents, l, Limits::DEFINITIONS - 1);
     let outer = at_most(outers, l, Limits::ARITY);
@@ -190,11 +135,7 @@ pub fn standin_string(
     link_string(
         file,
         refs,
-        names,
-        facts,
-        contexts,
-        heads,
-        declared,
+        store,
         &numbers[a..z],
         shapes,
         cur,

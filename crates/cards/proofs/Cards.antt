@@ -7,16 +7,16 @@ use Prim.Native.Nat.{ℕ, zero, suc, _+_, _*_, _≤_, _<_}
 use native.Mathlib.Numerals.{add-one}
 use native.Mathlib.Omega.{arith}
 use lib.Dec.{ltb}
-use lib.ListN.{drop, getD, getD-replicate, length, length-append, length-replicate, replicate, set}
+use lib.ListN.{drop, getD-replicate, length, length-append, length-replicate, replicate, set}
 use lib.Seq.{drop-append-add, drop-drop, paste, paste-suc, paste-zero, take-all, take-at}
 use Rattle.limits.specs.Limits.{cardBytes, cardMemoryBytes, maxArity, maxDefinitions}
-use Rattle.limits.specs.Sizes.{columnCount}
 use Rattle.theory.proofs.Cards.{card-length}
 use Rattle.theory.specs.Card.{cardOf}
 use Rattle.rules.specs.Run.{overwrite}
 use Rattle.forms.specs.Forms.{formAt, levelAt}
-use Rattle.context.specs.Store.{kindAt}
-use Rattle.cards.specs.Cards.{arityAt, cardAt, cardsOf}
+use Rattle.context.specs.Lookup.{arityAt}
+use Rattle.store.specs.Store.{kindAt}
+use Rattle.cards.specs.Cards.{cardAt, cardsOf}
 
 -- The first i bytes of n are set.
 pub record Cleared (n : ℕ) (before after : List ℕ) (i : ℕ) : Type 0 where
@@ -74,12 +74,12 @@ few-params facts g = go (ltb maxArity (kindAt facts g)) refl
     go false e = ltb-false maxArity (kindAt facts g) e
 
 -- the same of what the code reads
-pub card-turn : (facts words : List ℕ) (n g a k : ℕ) (f : ℕ) (m out out′ : List ℕ) → out ≡ overwrite (cardsOf facts words g) m → f ≡ formAt words g
-    → a ≡ getD facts (columnCount * g) 0 → k ≡ cond (ltb maxArity a) 0 a → out′ ≡ paste out (cardBytes * g) (cardOf k (levelAt f)) cardBytes
+pub card-turn : (facts words : List ℕ) (n g k f : ℕ) (m out out′ : List ℕ) → out ≡ overwrite (cardsOf facts words g) m → f ≡ formAt words g
+    → k ≡ arityAt facts g → out′ ≡ paste out (cardBytes * g) (cardOf k (levelAt f)) cardBytes
     → g < n → n ≤ maxDefinitions → cardMemoryBytes ≤ length m → out′ ≡ overwrite (cardsOf facts words (g + 1)) m
-card-turn facts words n g a k f m out out′ e p q r u l few room =
+card-turn facts words n g k f m out out′ e p r u l few room =
     fill-turn facts words (few-params facts) g m out out′ (omega arith) e
-    (u ∙ ap₂ (λ (j : ℕ) (h : ℕ). paste out (cardBytes * g) (cardOf j (levelAt h)) cardBytes) (r ∙ ap (λ (j : ℕ). cond (ltb maxArity j) 0 j) q) p)
+    (u ∙ ap₂ (λ (j : ℕ) (h : ℕ). paste out (cardBytes * g) (cardOf j (levelAt h)) cardBytes) r p)
 
 pub cards-done : (facts words : List ℕ) (n g : ℕ) (m out : List ℕ) → out ≡ overwrite (cardsOf facts words g) m → g ≤ n → n ≤ g → out ≡ overwrite (cardsOf facts words n) m
 cards-done facts words n g m out e a b = e ∙ ap (λ (j : ℕ). overwrite (cardsOf facts words j) m) (let z : g ≡ n = omega arith in z)

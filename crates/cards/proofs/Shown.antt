@@ -17,13 +17,14 @@ use Rattle.laws.proofs.Within.{Within}
 use Rattle.texts.specs.Text.{Declarations}
 use Rattle.forms.specs.Forms.{formAt, levelAt}
 use Rattle.context.specs.Holds.{Holds}
-use Rattle.context.specs.Store.{Store, kindAt}
+use Rattle.context.specs.Lookup.{arityAt}
+use Rattle.store.specs.Store.{Store, kindAt}
 use Rattle.context.specs.declared.Counts.{Counts}
 use Rattle.levels.proofs.Numbered.{numbers-at}
 use Rattle.levels.specs.Tables.{sceneOf}
 use Rattle.text_levels.proofs.OwnWorld.{Shows}
 use Rattle.standing.specs.Standing.{itselves}
-use Rattle.cards.specs.Cards.{arityAt, cardAt, cardsOf}
+use Rattle.cards.specs.Cards.{cardAt, cardsOf}
 
 module _ (facts words : List ℕ) (s : State) where
   cards-split : (k : ℕ) (ds : List Added) → ((i : ℕ) → i < k + length ds → cardAt facts words i ≡ card s i)

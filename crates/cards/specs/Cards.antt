@@ -1,18 +1,11 @@
 -- The cards that the arrays hold, definition after definition.
-use mathlib.Core.Bool.{cond}
 use mathlib.Core.List.{List, [], _++_}
 use Prim.Native.Nat.{ℕ, zero, suc}
-use lib.Dec.{ltb}
-use Rattle.limits.specs.Limits.{maxArity}
 use Rattle.theory.specs.Card.{cardOf}
 use Rattle.forms.specs.Forms.{formAt, levelAt}
-use Rattle.context.specs.Store.{kindAt}
+use Rattle.context.specs.Lookup.{arityAt}
 
--- the parameter count of definition g; none has more than the limit
-abbrev pub arityAt : List ℕ → ℕ → ℕ
-arityAt facts g = cond (ltb maxArity (kindAt facts g)) 0 (kindAt facts g)
-
--- the card of its form
+-- the card of definition g, from its form
 abbrev pub cardAt : List ℕ → List ℕ → ℕ → List ℕ
 cardAt facts words g = cardOf (arityAt facts g) (levelAt (formAt words g))
 

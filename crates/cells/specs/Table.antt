@@ -14,6 +14,10 @@ use Rattle.rewriting.specs.Ends.{lastFrom}
 use Rattle.cells.specs.Words.{wordAt}
 use Rattle.cells.specs.declared.Layout.{Layout}
 
+-- the longest string that is worked on, in bytes: a longer one belongs to an expansion that is too long
+abbrev pub stringBytes : ℕ
+stringBytes = 131072
+
 -- how many calls of n stand in a string
 abbrev pub tally : ℕ → List Symbol → ℕ
 tally n [] = 0

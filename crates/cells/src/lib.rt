@@ -21,10 +21,20 @@ pub struct Layout {
     pub room: usize,
 }
 
+impl Layout {
+    // The most calls that there are words for: as many as a rank counts.
+    pub const CALLS: usize = Place::RANKS - 1;
+}
+
 // A place in the string, and how many calls stand before it, `room` at most.
 pub struct Place {
     pub at: usize,
     pub rank: usize,
+}
+
+impl Place {
+    // A word keeps a rank in its lowest 14 bits and the place above them.
+    pub const RANKS: usize = 16384;
 }
 
 // The number at place i, bytes past the end taken for 0.
@@ -79,7 +89,7 @@ pub fn layout_of(h: u32, bytes: usize) -> Layout
     Layout {
         places,
         stride,
-        room: lesser(bytes / 4 / stride, 16383),
+        room: lesser(bytes / 4 / stride, Layout::CALLS),
     }
 }
 
@@ -88,8 +98,8 @@ pub fn unpack(v: usize) -> Place
     ensures { λ r. ⌜ (r .at ≡ v / 16384) × (r .rank ≡ v % 16384) ⌝ }
 {
     Place {
-        at: v / 16384,
-        rank: v % 16384,
+        at: v / Place::RANKS,
+        rank: v % Place::RANKS,
     }
 }
 

@@ -13,7 +13,8 @@ use Rattle.rules.specs.State.{State}
 use Rattle.texts.specs.Text.{Declarations}
 use Rattle.levels.specs.Tables.{namesOf, tableWords}
 use Rattle.levels.specs.Walk.{TextForm}
-use Rattle.context.specs.Store.{Store, fieldCode, firstAt, instanceKind, kindAt, linkAt, sourceAt}
+use Rattle.context.specs.Entries.{fieldCode, instanceKind}
+use Rattle.store.specs.Store.{Store, firstAt, kindAt, linkAt, sourceAt}
 use Rattle.context.specs.declared.Counts.{Counts}
 use Rattle.worlds.proofs.Invariant.{length-meanings}
 use Rattle.worlds.specs.Rows.{Row, noRow}

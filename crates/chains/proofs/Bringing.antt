@@ -14,7 +14,7 @@ use Rattle.texts.specs.Text.{Declarations}
 use Rattle.forms.specs.Forms.{formAt, levelAt, stored}
 use Rattle.forms.proofs.Tables.{load-other, load-same, stored-length}
 use Rattle.levels.specs.Tables.{tableWords}
-use Rattle.context.specs.Store.{Store}
+use Rattle.store.specs.Store.{Store}
 use Rattle.context.specs.declared.Counts.{Counts}
 use Rattle.worlds.specs.Rows.{Row}
 use Rattle.chains.specs.Ready.{DeclaredForms, FormsBelow, Ready}

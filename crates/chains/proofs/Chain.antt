@@ -26,7 +26,8 @@ use Rattle.forms.specs.Forms.{formAt, levelAt, width}
 use Rattle.forms.proofs.Forms.{at-low}
 use Rattle.levels.specs.Tables.{namesOf}
 use Rattle.levels.specs.Walk.{TextForm}
-use Rattle.context.specs.Store.{Store, codesOf, fieldCode, firstAt, instanceKind, kindAt, linkAt, orderOf}
+use Rattle.context.specs.Entries.{codesOf, fieldCode, instanceKind, orderOf}
+use Rattle.store.specs.Store.{Store, firstAt, kindAt, linkAt}
 use Rattle.context.specs.declared.Counts.{Counts}
 use Rattle.worlds.proofs.File.{MeansBelow, definition-by-tables, is-text, world-params}
 use Rattle.worlds.proofs.InWorld.{Comes, LinkOk}
@@ -48,7 +49,7 @@ use Rattle.standing.specs.Chained.{Own, Through}
 use Rattle.standing.specs.Shown.{Declaration, LinkShown, TextShown, ownerShift}
 use Rattle.chains.specs.Ready.{DeclaredForms, FormsBelow, Ready}
 use Rattle.chains.specs.Walk.{LinkEntered, aroundLink, siteOf}
-use Rattle.chains.proofs.Knowing.{DefinedIn, NamedIn, Placed, stands-known, written-known}
+use Rattle.chains.proofs.Knowing.{DefinedIn, FormedIn, NamedIn, stands-known, written-known}
 use Rattle.chains.proofs.Places.{InModule, brought-in, comes-link, declared-link, number-there, params-append, uses-module}
 use Rattle.entering.proofs.Joining.{CodeOf, LowTable, keeps-tables, substitutes-right}
 
@@ -195,7 +196,7 @@ module _ (file refs words : List ℕ) (v : Store) (declared : List ℕ) (n d : �
         let e : paramsIn (worldOf rs d) ≡ paramsIn (worldOf rs (t .from) ++ (l ∷ w)) = ap paramsIn further in
         omega (arith, e, params-append (worldOf rs (t .from)) (l ∷ w), world-params s rs (ready .worlds) (ready .sound) d inside, ready .params d inside)
 
-    placed : (k : Kind) (x : ℕ) → DeclaredBy l k x → Placed ar w (l .params + kindArity k) (l .substitutes k x)
+    placed : (k : Kind) (x : ℕ) → DeclaredBy l k x → FormedIn ar w (l .params + kindArity k) (l .substitutes k x)
     placed k x e =
         record {
           formed =
@@ -316,7 +317,7 @@ module _ (file refs words : List ℕ) (v : Store) (declared : List ℕ) (n d : �
     abbrev u : Term
     u = textOf s rs d
 
-    text-placed : Placed ar (worldOf rs d) m u
+    text-placed : FormedIn ar (worldOf rs d) m u
     text-placed =
         let x = is-text s rs (ready .worlds) (ready .sound) d inside in
         record {
@@ -336,7 +337,7 @@ module _ (file refs words : List ℕ) (v : Store) (declared : List ℕ) (n d : �
         let long : length ρ ≡ paramsIn (walked .world) + m = omega (arith, size, wp, ew) in
         let short : length ρ ≤ width = omega (arith, size, ready .params d inside) in
         let k = written-known file refs v decls end ar (walked .world) numbers inner m (firstAt (v .facts) cur) u
-        (subst (λ (x : World). Placed ar x m u) whole text-placed)
+        (subst (λ (x : World). FormedIn ar x m u) whole text-placed)
         (subst (λ (i : ℕ). TextShown file refs decls end (firstAt (v .facts) cur) (bodyOf (definitionAt s i .meaning))) (sym reached) (o .text)) in
         written-level G decls (NamedIn decls (walked .world)) (DefinedIn (walked .world)) (walked .world) (walked .tables) numbers inner (walked .shows) ρ lows m long refs
         (keeps-tables G (good-table words) (walked .world) (walked .tables) (walked .low) (take (paramsIn (walked .world)) ρ) (take-levels (paramsIn (walked .world)) ρ lows))

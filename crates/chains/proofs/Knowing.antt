@@ -10,7 +10,7 @@ use Rattle.theory.specs.Tree.{count}
 use Rattle.tokens.specs.Expr.{Expr, exprAt, found}
 use Rattle.texts.specs.Text.{Declarations, refHead}
 use Rattle.text_levels.proofs.OwnWorld.{Tokens, tokens-found}
-use Rattle.context.specs.Store.{Store}
+use Rattle.store.specs.Store.{Store}
 use Rattle.worlds.specs.World.{AnyName, Declared, Names, Uses, World}
 use Rattle.entering.specs.declared.substitutes.Site.{Site}
 use Rattle.entering.specs.declared.written.Writing.{Writing}
@@ -31,7 +31,7 @@ abbrev pub NamedIn : Declarations → World → ℕ → Type 0
 NamedIn decls w = Numbered decls (Declared AnyName w)
 
 -- a term that may stand in the module of the world, over n parameters
-pub record Placed (ar : Arities) (w : World) (n : ℕ) (u : Term) : Type 0 where
+pub record FormedIn (ar : Arities) (w : World) (n : ℕ) (u : Term) : Type 0 where
   pub formed : WellFormed ar n 0 u
   pub names : Names (Declared AnyName w) u
   pub uses : Uses (DefinedIn w) u
@@ -44,7 +44,7 @@ count-params i zero = refl
 count-params i (suc p) = ap suc (count-params (suc i) p)
 
 module _ (file refs : List ℕ) (v : Store) (decls : Declarations) (end : ℕ) (ar : Arities) (w : World) (numbers inner : List ℕ) where
-  pub written-known : (n at : ℕ) (u : Term) → Placed ar w n u → TextShown file refs decls end at u
+  pub written-known : (n at : ℕ) (u : Term) → FormedIn ar w n u → TextShown file refs decls end at u
       → WrittenText (aroundLink file refs v numbers inner) decls (NamedIn decls w) (DefinedIn w) ar n at u
   written-known n at u p t =
       record {
@@ -59,7 +59,7 @@ module _ (file refs : List ℕ) (v : Store) (decls : Declarations) (end : ℕ) (
         same = t .same;
       }
 
-  pub implied-known : (n owner p : ℕ) (k : Kind) (x : ℕ) (u : Term) → Placed ar w n u → ImpliedShown v decls owner p k x u
+  pub implied-known : (n owner p : ℕ) (k : Kind) (x : ℕ) (u : Term) → FormedIn ar w n u → ImpliedShown v decls owner p k x u
       → ImpliedText decls (NamedIn decls w) (DefinedIn w) ar n p k (impliedRef (v .names) (v .facts) (v .contexts) (v .heads) owner x) u
   implied-known n owner p k x u q i =
       let r : ℕ = impliedRef (v .names) (v .facts) (v .contexts) (v .heads) owner x in
@@ -73,7 +73,7 @@ module _ (file refs : List ℕ) (v : Store) (decls : Declarations) (end : ℕ) (
       }
 
   -- either, for the declaration of that name, whose code is o
-  pub stands-known : (site : Site) (n : ℕ) (k : Kind) (x o : ℕ) (u : Term) → getD (v .names) o 0 ≡ x → Placed ar w n u → (y : Writing)
+  pub stands-known : (site : Site) (n : ℕ) (k : Kind) (x o : ℕ) (u : Term) → getD (v .names) o 0 ≡ x → FormedIn ar w n u → (y : Writing)
       → StandsFor v file refs decls end (site .owner) (site .params) k x u y
       → Known (aroundLink file refs v numbers inner) site decls (NamedIn decls w) (DefinedIn w) ar n k o u y
   stands-known site n k x o u e p (Written at) h = written-known n at u p h

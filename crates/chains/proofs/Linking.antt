@@ -8,7 +8,8 @@ use lib.ListN.{length}
 use native.Mathlib.Omega.{arith}
 use Prim.Native.Nat.{_+_, _-_, _/_, _≤_, ℕ}
 use Rattle.limits.specs.Limits.{maxArity, maxDefinitions, maxModules}
-use Rattle.context.specs.Store.{Store, contextCodes, firstAt, instanceKind, kindAt, linkAt, orderOf, sourceAt, viaAt}
+use Rattle.context.specs.Entries.{contextCodes, instanceKind, orderOf}
+use Rattle.store.specs.Store.{Store, firstAt, kindAt, linkAt, sourceAt, viaAt}
 use Rattle.standing.specs.Shown.{ownerShift}
 use Rattle.entering.specs.Substitutes.{Around, Fitting, Substituted}
 use Rattle.entering.specs.declared.substitutes.Site.{Site}

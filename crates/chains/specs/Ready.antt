@@ -11,7 +11,7 @@ use Rattle.rules.specs.State.{State, cardLevel, paramsOf}
 use Rattle.laws.proofs.Sound.{SoundFrom}
 use Rattle.texts.specs.Text.{Declarations, noDeclaration}
 use Rattle.forms.specs.Forms.{formAt, levelAt}
-use Rattle.context.specs.Store.{Store}
+use Rattle.store.specs.Store.{Store}
 use Rattle.context.specs.declared.Counts.{Counts}
 use Rattle.worlds.specs.Rows.{Row, textOf, worldOf}
 use Rattle.worlds.specs.World.{AllDeclared, AnyName}

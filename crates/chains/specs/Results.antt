@@ -10,7 +10,7 @@ use Rattle.theory.specs.Lists.{All}
 use Rattle.rules.specs.State.{State, cardLevel, paramsOf}
 use Rattle.texts.specs.Text.{Declarations}
 use Rattle.forms.specs.Forms.{formAt, levelAt}
-use Rattle.context.specs.Store.{Store}
+use Rattle.store.specs.Store.{Store}
 use Rattle.context.specs.declared.Counts.{Counts}
 use Rattle.worlds.specs.Rows.{Row}
 use Rattle.chains.specs.Ready.{DeclaredForms, FormsBelow, Ready}

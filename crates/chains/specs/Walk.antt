@@ -6,7 +6,8 @@ use Prim.Native.Nat.{ℕ, _+_, _-_, _/_, _%_}
 use lib.Dec.{eqb, ltb}
 use lib.ListN.{length}
 use Rattle.limits.specs.Limits.{maxArity, maxDefinitions, maxModules}
-use Rattle.context.specs.Store.{Store, contextCodes, fieldCode, firstAt, instanceKind, kindAt, linkAt, orderOf, sourceAt, viaAt}
+use Rattle.context.specs.Entries.{contextCodes, fieldCode, instanceKind, orderOf}
+use Rattle.store.specs.Store.{Store, firstAt, kindAt, linkAt, sourceAt, viaAt}
 use Rattle.standing.specs.Shown.{ownerShift}
 use Rattle.entering.specs.declared.substitutes.Site.{Site}
 use Rattle.entering.specs.Numbering.{Entered}

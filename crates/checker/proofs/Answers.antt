@@ -8,14 +8,14 @@ use native.Mathlib.Omega.{arith}
 use lib.Dec.{ltb}
 use lib.ListN.{length, length-replicate, replicate}
 use Rattle.limits.specs.Limits.{cardMemoryBytes, fileBytes, maxDefinitions}
-use Rattle.limits.specs.Sizes.{codeCount, contextsLength, factsLength, headsLength, ordersLength}
+use Rattle.limits.specs.Sizes.{codeCount, contextsLength, factsLength, headsLength, ordersLength, storeLength}
 use Rattle.theory.proofs.Lists.{or-false}
 use Rattle.rules.specs.Bytes.{isEmpty}
 use Rattle.rules.specs.Run.{Answer, Outcome, afterCheck, andThen, cardsFrom, fileCheck, checked, judgeFile, memoryAfter, overwrite, refusal, result}
 use Rattle.rules.specs.State.{State}
 use Rattle.laws.proofs.FileRefusals.{short-memory}
-use Rattle.context.proofs.Adds.{empty}
-use Rattle.context.specs.Store.{Store, store}
+use Rattle.store.proofs.Regions.{nothing-held}
+use Rattle.store.specs.Store.{Store, empty, held}
 use Rattle.context.specs.declared.Counts.{Counts}
 use Rattle.resolve.proofs.Numbers.{declarationsOf}
 use Rattle.cards.specs.Cards.{cardsOf}
@@ -33,29 +33,29 @@ judged-fields file memory room some fits =
 cleared : (c p : ℕ) (memory : List ℕ) → (c ≡ 1 → ⊥) → memoryAfter (refusal c p) memory ≡ overwrite (replicate cardMemoryBytes 0) memory
 cleared c p memory h = ap (λ (b : Bool). cond b memory (overwrite (replicate cardMemoryBytes 0) memory)) (ne-eqb c 1 h)
 
-cards-reached : (file : List ℕ) (v : Store) (c : Counts) (refs words declared : List ℕ) (n : ℕ) (x : Reaches file v c refs words declared n)
+cards-reached : (file : List ℕ) (v : Store) (c : Counts) (refs words : List ℕ) (n : ℕ) (x : Reaches file v c refs words n)
     → cardsOf (v .facts) words (c .definitions) ≡ cardsFrom (x .state) 0 (x .state .definitions)
-cards-reached file v c refs words declared n x =
+cards-reached file v c refs words n x =
     cards-shown v c (x .state) words (declarationsOf (x .fields)) (x .stands .holds) (x .stands .within) (x .stands .forms)
 
 -- the lent memory of an accepted file
-pub memory-filled : (file memory after : List ℕ) (v : Store) (c : Counts) (refs words declared : List ℕ) (n : ℕ) (x : Reaches file v c refs words declared n)
+pub memory-filled : (file memory after : List ℕ) (v : Store) (c : Counts) (refs words : List ℕ) (n : ℕ) (x : Reaches file v c refs words n)
     → after ≡ overwrite (cardsOf (v .facts) words n) memory → after ≡ memoryAfter (result (x .state)) memory
-memory-filled file memory after v c refs words declared n x y =
+memory-filled file memory after v c refs words n x y =
     y ∙ ap (λ (k : ℕ). overwrite (cardsOf (v .facts) words k) memory) (sym (x .counted))
-    ∙ ap (λ (bs : List ℕ). overwrite bs memory) (cards-reached file v c refs words declared n x)
+    ∙ ap (λ (bs : List ℕ). overwrite bs memory) (cards-reached file v c refs words n x)
 
 -- Whatever is asked of a file: what it leaves, by the outcome of the check.
 module _ {A : Type 0} (query : State → Outcome A) (file memory : List ℕ) where
   abbrev left : Outcome State → Answer A
   left o = record { reply = andThen o query; memory = memoryAfter o memory }
 
-  pub reached-answer : (after : List ℕ) (v : Store) (c : Counts) (refs words declared : List ℕ) (n : ℕ) (o : Outcome A) → cardMemoryBytes ≤ length memory → isEmpty file ≡ false → length file ≤ fileBytes
-      → (x : Reaches file v c refs words declared n) → after ≡ overwrite (cardsOf (v .facts) words n) memory → o ≡ query (x .state)
+  pub reached-answer : (after : List ℕ) (v : Store) (c : Counts) (refs words : List ℕ) (n : ℕ) (o : Outcome A) → cardMemoryBytes ≤ length memory → isEmpty file ≡ false → length file ≤ fileBytes
+      → (x : Reaches file v c refs words n) → after ≡ overwrite (cardsOf (v .facts) words n) memory → o ≡ query (x .state)
       → answer o after ≡ afterCheck file memory query
-  reached-answer after v c refs words declared n o room some fits x y e =
+  reached-answer after v c refs words n o room some fits x y e =
       let q : checked file memory ≡ result (x .state) = judged-fields file memory room some fits ∙ x .accepted in
-      ap₂ answer e (memory-filled file memory after v c refs words declared n x y) ∙ ap left (sym q)
+      ap₂ answer e (memory-filled file memory after v c refs words n x y) ∙ ap left (sym q)
 
   pub refused-answer : (after : List ℕ) (c p : ℕ) → cardMemoryBytes ≤ length memory → isEmpty file ≡ false → length file ≤ fileBytes → judgeFile file ≡ refusal c p
       → after ≡ overwrite (replicate cardMemoryBytes 0) memory → answer (refusal c p) after ≡ afterCheck file memory query
@@ -79,16 +79,16 @@ module _ {A : Type 0} (query : State → Outcome A) (file memory : List ℕ) whe
 abbrev countReply : State → Outcome ℕ
 countReply s = result (length (s .definitions))
 
-pub check-answered : (file memory after : List ℕ) (v : Store) (c : Counts) (refs words declared : List ℕ) (r : Reply) → cardMemoryBytes ≤ length memory → isEmpty file ≡ false → length file ≤ fileBytes
-    → Settles file v c refs words declared r → Leaves (v .facts) words r memory after → answerOf r after ≡ fileCheck file memory
-check-answered file memory after v c refs words declared (Accepted n) room some fits x y =
-    reached-answer countReply file memory after v c refs words declared n (result n) room some fits x y (ap result (sym (x .counted) ∙ x .stands .holds .definitions))
-check-answered file memory after v d refs words declared (Refused c p) room some fits x y = refused-answer countReply file memory after c p room some fits x y
+pub check-answered : (file memory after : List ℕ) (v : Store) (c : Counts) (refs words : List ℕ) (r : Reply) → cardMemoryBytes ≤ length memory → isEmpty file ≡ false → length file ≤ fileBytes
+    → Settles file v c refs words r → Leaves (v .facts) words r memory after → answerOf r after ≡ fileCheck file memory
+check-answered file memory after v c refs words (Accepted n) room some fits x y =
+    reached-answer countReply file memory after v c refs words n (result n) room some fits x y (ap result (sym (x .counted) ∙ x .stands .holds .definitions))
+check-answered file memory after v d refs words (Refused c p) room some fits x y = refused-answer countReply file memory after c p room some fits x y
 
-pub check-concluded : (file memory after : List ℕ) (v : Store) (c : Counts) (refs words declared : List ℕ) (r : Reply) → cardMemoryBytes ≤ length memory → isEmpty file ≡ false → length file ≤ fileBytes
-    → Concludes file v c refs words declared r memory after → answerOf r after ≡ fileCheck file memory
-check-concluded file memory after v c refs words declared r room some fits x =
-    check-answered file memory after v c refs words declared r room some fits (x .settles) (x .leaves)
+pub check-concluded : (file memory after : List ℕ) (v : Store) (c : Counts) (refs words : List ℕ) (r : Reply) → cardMemoryBytes ≤ length memory → isEmpty file ≡ false → length file ≤ fileBytes
+    → Concludes file v c refs words r memory after → answerOf r after ≡ fileCheck file memory
+check-concluded file memory after v c refs words r room some fits x =
+    check-answered file memory after v c refs words r room some fits (x .settles) (x .leaves)
 
 pub check-short : (file memory : List ℕ) → length memory < cardMemoryBytes → answerOf (Refused 1 0) memory ≡ fileCheck file memory
 check-short file memory l = short-answer countReply file memory l
@@ -126,13 +126,10 @@ pub cleared-in : (facts words before after : List ℕ) (r : Reply) (c p : ℕ) �
     → Leaves facts words r before after
 cleared-in facts words before after r c p e f = subst⁻¹ (λ (y : Reply). Leaves facts words y before after) e f
 
-pub settled-few : (file : List ℕ) (v : Store) (c : Counts) (refs words declared : List ℕ) (r : Reply) → Settles file v c refs words declared r → Few r
-settled-few file v c refs words declared (Accepted n) x = omega (arith, x .counted, x .stands .holds .sized .definitions)
-settled-few file v d refs words declared (Refused c p) x = tt
+pub settled-few : (file : List ℕ) (v : Store) (c : Counts) (refs words : List ℕ) (r : Reply) → Settles file v c refs words r → Few r
+settled-few file v c refs words (Accepted n) x = omega (arith, x .counted, x .stands .holds .sized .definitions)
+settled-few file v d refs words (Refused c p) x = tt
 
-pub facts-size : (names facts contexts orders heads : List ℕ) → store names facts contexts orders heads ≡ empty → length facts ≡ factsLength
-facts-size names facts contexts orders heads e = ap (λ (v : Store). length (v .facts)) e ∙ length-replicate {A = ℕ} factsLength 0
-
-pub empty-store : {names facts contexts orders heads : List ℕ} → names ≡ replicate codeCount 0 → facts ≡ replicate factsLength 0 → contexts ≡ replicate contextsLength 0
-    → orders ≡ replicate ordersLength 0 → heads ≡ replicate headsLength 0 → store names facts contexts orders heads ≡ empty
-empty-store a b d e f i = store (a i) (b i) (d i) (e i) (f i)
+-- nothing was added to a store of zeros
+pub starts-empty : (s : List ℕ) → s ≡ replicate storeLength 0 → held s ≡ empty
+starts-empty s e = ap held e ∙ nothing-held

@@ -12,22 +12,23 @@ use Rattle.laws.proofs.Origins.{no-fields}
 use Rattle.laws.proofs.Within.{within-start}
 use Rattle.worlds.proofs.Depth.{depths-start}
 use Rattle.worlds.proofs.Fields.{worlds-start}
-use Rattle.context.proofs.Adds.{empty, hold-start}
-use Rattle.context.specs.Store.{noCounts}
+use Rattle.context.proofs.Adds.{hold-start}
+use Rattle.store.specs.Store.{empty}
+use Rattle.context.specs.Entries.{noCounts}
 use Rattle.resolve.proofs.Numbers.{no-declarations}
 use Rattle.levels.specs.Tables.{tableWords}
 use Rattle.judge_plain.proofs.Premises.{fresh-start}
 use Rattle.judge_plain.specs.declared.Phase.the-variants.{Outside}
 use Rattle.standing.specs.Standing.{Standing}
 
-pub standing-start : (file refs words declared : List ℕ) → length refs ≡ fileBytes → length words ≡ tableWords → length declared ≡ maxDeclarations
-    → Standing file [] start [] empty noCounts Outside refs words declared
-standing-start file refs words declared a b d =
+pub standing-start : (file refs words : List ℕ) → length refs ≡ fileBytes → length words ≡ tableWords
+    → Standing file [] start [] empty noCounts Outside refs words
+standing-start file refs words a b =
     record {
       holds = hold-start;
       phase = refl;
       declares = no-declarations (empty .facts) noCounts refl;
-      codes = record { size = d; named = λ i l. absurd (omega arith); kind = λ i l. absurd (omega arith); code = λ i l. absurd (omega arith); few = λ i l. absurd (omega arith) };
+      codes = record { named = λ i l. absurd (omega arith); kind = λ i l. absurd (omega arith); code = λ i l. absurd (omega arith); few = λ i l. absurd (omega arith) };
       forms = record { definitions = λ g us l n e. absurd (omega arith); declarations = λ g us l n e. absurd (omega arith) };
       chained = record { each = λ D l. absurd (omega arith) };
       early = λ i l. absurd (omega arith);

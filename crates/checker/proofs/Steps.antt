@@ -16,7 +16,7 @@ use Rattle.fields.specs.Substitution.{part, substitutionsFit}
 use Rattle.fields.specs.declared.Cursor.{Cursor}
 use Rattle.fields.specs.declared.Parts.the-variants.{Module, Extends, Constant, Variable, Definition, Instance, EndModule, Assume, Theorem, Cut, EndOfFile}
 use Rattle.fields.specs.declared.Parts.{Parts}
-use Rattle.fields.specs.declared.Step.{Step}
+use Rattle.fields.specs.declared.FieldStep.{FieldStep}
 use Rattle.agree.specs.Parts.{IsField, Reads}
 use Rattle.standing.specs.Standing.{Filled}
 
@@ -123,7 +123,7 @@ module _ (p : List ℕ) (base end : ℕ) (e : base + length p ≡ end) where
       (λ q. cases (Filled end) (eqb tag 9) (λ q. theorem-filled) (λ q. tt)))))))))
 
 -- A step to a field: its number, the next one's, and what fills it.
-pub record Stepped (c : Cursor) (x : Step) : Type 0 where
+pub record Stepped (c : Cursor) (x : FieldStep) : Type 0 where
   pub number : x .number ≡ c .number
   pub next : isEnd (x .parts) ≡ false → isCut (x .parts) ≡ false → x .next .number ≡ c .number + 1
   pub filled : Filled (placeOf (x .next)) (x .parts)

@@ -24,11 +24,11 @@ use Rattle.worlds.specs.Rows.{rowsAfter}
 use Rattle.tokens.proofs.Writing.{Bytes}
 use Rattle.fields.specs.Cursor.{isCut, isEnd, placeOf, stepAt}
 use Rattle.fields.specs.declared.Cursor.{Cursor}
-use Rattle.fields.specs.declared.Step.{Step}
+use Rattle.fields.specs.declared.FieldStep.{FieldStep}
 use Rattle.agree.proofs.Fields.{reads}
 use Rattle.agree.specs.Parts.{IsField}
-use Rattle.context.proofs.Adds.{empty}
-use Rattle.context.specs.Store.{Store, noCounts}
+use Rattle.store.specs.Store.{Store, empty}
+use Rattle.context.specs.Entries.{noCounts}
 use Rattle.context.specs.declared.Counts.{Counts}
 use Rattle.levels.specs.Tables.{tableWords}
 use Rattle.judge_plain.proofs.Premises.{no-cause-left}
@@ -45,10 +45,10 @@ use Rattle.checker.specs.declared.judging.Turn.{Turn}
 use Rattle.checker.proofs.Outset.{standing-start}
 use Rattle.checker.proofs.Steps.{is-cut, is-end, is-field, stepped}
 
-pub midway-start : (file refs words declared : List ℕ) → length refs ≡ fileBytes → length words ≡ tableWords → length declared ≡ maxDeclarations
-    → Midway file (record { number = 0; offset = 0 }) empty noCounts Outside refs words declared
+pub midway-start : (file refs words : List ℕ) → length refs ≡ fileBytes → length words ≡ tableWords
+    → Midway file (record { number = 0; offset = 0 }) empty noCounts Outside refs words
 unfolding run
-midway-start file refs words declared a b d = midway [] start [] (standing-start file refs words declared a b d) refl refl refl
+midway-start file refs words a b = midway [] start [] (standing-start file refs words a b) refl refl refl
 
 bytes-more : (s : State) (f : Field) → add s f .bytes ≡ s .bytes + length (writeField f)
 bytes-more s (begin-module n) = refl
@@ -98,110 +98,110 @@ module _ (file : List ℕ) (at : Cursor) (known : Bytes file) (short : length fi
         short = short;
       }
 
-  module _ {v : Store} {c : Counts} {p : Phase} {refs words declared : List ℕ} where
-    pub asks : Midway file at v c p refs words declared → (x : Step) → x ≡ stepAt file at → isEnd (x .parts) ≡ false → isCut (x .parts) ≡ false
-        → Underway file v c p refs words declared (x .parts)
+  module _ {v : Store} {c : Counts} {p : Phase} {refs words : List ℕ} where
+    pub asks : Midway file at v c p refs words → (x : FieldStep) → x ≡ stepAt file at → isEnd (x .parts) ≡ false → isCut (x .parts) ≡ false
+        → Underway file v c p refs words (x .parts)
     asks (midway fs s rs stands place number same) x e a b =
-        let w = found (subst (λ (y : Step). isEnd (y .parts) ≡ false) e a) (subst (λ (y : Step). isCut (y .parts) ≡ false) e b) in
-        subst (λ (y : Step). Underway file v c p refs words declared (y .parts)) (sym e) (underway fs s rs (w .0) stands (at-field s place w))
+        let w = found (subst (λ (y : FieldStep). isEnd (y .parts) ≡ false) e a) (subst (λ (y : FieldStep). isCut (y .parts) ≡ false) e b) in
+        subst (λ (y : FieldStep). Underway file v c p refs words (y .parts)) (sym e) (underway fs s rs (w .0) stands (at-field s place w))
 
-    pub turn : {v′ : Store} {refs′ words′ declared′ : List ℕ} → Midway file at v c p refs words declared → (x : Step) → x ≡ stepAt file at
+    pub turn : {v′ : Store} {refs′ words′ : List ℕ} → Midway file at v c p refs words → (x : FieldStep) → x ≡ stepAt file at
         → isEnd (x .parts) ≡ false → isCut (x .parts) ≡ false → (r : Judged)
-        → Judging file (x .parts) v v′ c p r refs refs′ words words′ declared declared′ → r .cause ≡ 0
-        → Midway file (x .next) v′ (r .counts) (r .phase) refs′ words′ declared′
-    turn {v′} {refs′} {words′} {declared′} (midway fs s rs stands place number same) x e a b r j z =
-        let a′ = subst (λ (y : Step). isEnd (y .parts) ≡ false) e a in
-        let b′ = subst (λ (y : Step). isCut (y .parts) ≡ false) e b in
+        → Judging file (x .parts) v v′ c p r refs refs′ words words′ → r .cause ≡ 0
+        → Midway file (x .next) v′ (r .counts) (r .phase) refs′ words′
+    turn {v′} {refs′} {words′} (midway fs s rs stands place number same) x e a b r j z =
+        let a′ = subst (λ (y : FieldStep). isEnd (y .parts) ≡ false) e a in
+        let b′ = subst (λ (y : FieldStep). isCut (y .parts) ≡ false) e b in
         let w = found a′ b′ in
         let f : Field = w .0 in
         let next = stepAt file at .next in
-        let k = subst (λ (y : Step). Judging file (y .parts) v v′ c p r refs refs′ words words′ declared declared′) e j .advances fs s rs f stands (at-field s place w) in
+        let k = subst (λ (y : FieldStep). Judging file (y .parts) v v′ c p r refs refs′ words words′) e j .advances fs s rs f stands (at-field s place w) in
         let clear : judge s f ≡ none = no-cause-left s f (sym (k .cause) ∙ z) in
         let there : placeOf next ≡ add s f .bytes = w .3 ∙ ap (λ (n : ℕ). n + length (writeField f)) place ∙ sym (bytes-more s f) in
         let onward : run (drop (s .bytes) file) s ≡ run (drop (add s f .bytes) file) (add s f) =
         run-next (drop (s .bytes) file) s f (drop (add s f .bytes) file)
         (subst (λ (n : ℕ). field .read (drop n file) ≡ got f (drop (add s f .bytes) file)) place
         (subst (λ (n : ℕ). field .read (drop (placeOf at) file) ≡ got f (drop n file)) there (w .2))) clear in
-        subst (λ (y : Step). Midway file (y .next) v′ (r .counts) (r .phase) refs′ words′ declared′) (sym e)
+        subst (λ (y : FieldStep). Midway file (y .next) v′ (r .counts) (r .phase) refs′ words′) (sym e)
         (midway (fs ++ (f ∷ [])) (add s f) (rowsAfter s rs f) (k .stands z) there
         (stepped file at .next a′ b′ ∙ ap (λ (n : ℕ). n + 1) number ∙ sym (fields-more s f)) (same ∙ onward))
 
-    pub turned-down : {v′ : Store} {refs′ words′ declared′ : List ℕ} → Midway file at v c p refs words declared → (x : Step) → x ≡ stepAt file at
+    pub turned-down : {v′ : Store} {refs′ words′ : List ℕ} → Midway file at v c p refs words → (x : FieldStep) → x ≡ stepAt file at
         → isEnd (x .parts) ≡ false → isCut (x .parts) ≡ false → (r : Judged)
-        → Judging file (x .parts) v v′ c p r refs refs′ words words′ declared declared′ → (r .cause ≡ 0 → ⊥)
+        → Judging file (x .parts) v v′ c p r refs refs′ words words′ → (r .cause ≡ 0 → ⊥)
         → judgeFile file ≡ refusal (r .cause) (x .number)
-    turned-down {v′} {refs′} {words′} {declared′} (midway fs s rs stands place number same) x e a b r j z =
-        let a′ = subst (λ (y : Step). isEnd (y .parts) ≡ false) e a in
-        let b′ = subst (λ (y : Step). isCut (y .parts) ≡ false) e b in
+    turned-down {v′} {refs′} {words′} (midway fs s rs stands place number same) x e a b r j z =
+        let a′ = subst (λ (y : FieldStep). isEnd (y .parts) ≡ false) e a in
+        let b′ = subst (λ (y : FieldStep). isCut (y .parts) ≡ false) e b in
         let w = found a′ b′ in
         let f : Field = w .0 in
-        let k = subst (λ (y : Step). Judging file (y .parts) v v′ c p r refs refs′ words words′ declared declared′) e j .advances fs s rs f stands (at-field s place w) in
+        let k = subst (λ (y : FieldStep). Judging file (y .parts) v v′ c p r refs refs′ words words′) e j .advances fs s rs f stands (at-field s place w) in
         let some-cause : judge s f ≡ some (r .cause) = caused (judge s f) (r .cause) (k .cause) z in
         same
         ∙ run-refused (drop (s .bytes) file) s f (drop (placeOf (stepAt file at .next)) file) (r .cause)
         (subst (λ (n : ℕ). field .read (drop n file) ≡ got f (drop (placeOf (stepAt file at .next)) file)) place (w .2)) some-cause
-        ∙ ap (refusal (r .cause)) (sym number ∙ sym (stepped file at .number) ∙ sym (ap (λ (y : Step). y .number) e))
+        ∙ ap (refusal (r .cause)) (sym number ∙ sym (stepped file at .number) ∙ sym (ap (λ (y : FieldStep). y .number) e))
       where
         caused : (o : Option ℕ) (n : ℕ) → n ≡ causeNumber o → (n ≡ 0 → ⊥) → o ≡ some n
         caused none n q h = absurd (h q)
         caused (some d) n q h = ap {B = Option ℕ} some (sym q)
 
-    pub cut-short : Midway file at v c p refs words declared → (x : Step) → x ≡ stepAt file at → isCut (x .parts) ≡ true → judgeFile file ≡ refusal 3 (x .number)
+    pub cut-short : Midway file at v c p refs words → (x : FieldStep) → x ≡ stepAt file at → isCut (x .parts) ≡ true → judgeFile file ≡ refusal 3 (x .number)
     cut-short (midway fs s rs stands place number same) x e a =
-        let r = is-cut file (placeOf at) (placeOf (stepAt file at .next)) (stepAt file at .parts) (subst (λ (y : Step). isCut (y .parts) ≡ true) e a) (reads file at known) in
+        let r = is-cut file (placeOf at) (placeOf (stepAt file at .next)) (stepAt file at .parts) (subst (λ (y : FieldStep). isCut (y .parts) ≡ true) e a) (reads file at known) in
         let l : s .bytes < length file = subst (λ (n : ℕ). n < length file) place (r .0) in
         let d = drop-cons file (s .bytes) 0 l in
         same ∙ ap (λ (bs : List ℕ). run bs s) d
         ∙ run-cut (getD file (s .bytes) 0) (drop (suc (s .bytes)) file) s
         (subst (λ (bs : List ℕ). field .read bs ≡ cut) d (subst (λ (n : ℕ). field .read (drop n file) ≡ cut) place (r .1)))
-        ∙ ap (refusal 3) (sym number ∙ sym (stepped file at .number) ∙ sym (ap (λ (y : Step). y .number) e))
+        ∙ ap (refusal 3) (sym number ∙ sym (stepped file at .number) ∙ sym (ap (λ (y : FieldStep). y .number) e))
 
-    pub ends : Midway file at v c p refs words declared → (x : Step) → x ≡ stepAt file at → isEnd (x .parts) ≡ true
-        → Settles file v c refs words declared (endReply p (c .definitions) (x .number))
+    pub ends : Midway file at v c p refs words → (x : FieldStep) → x ≡ stepAt file at → isEnd (x .parts) ≡ true
+        → Settles file v c refs words (endReply p (c .definitions) (x .number))
     ends (midway fs s rs stands place number same) x e a =
-        let r = is-end file (placeOf at) (placeOf (stepAt file at .next)) (stepAt file at .parts) (subst (λ (y : Step). isEnd (y .parts) ≡ true) e a) (reads file at known) in
+        let r = is-end file (placeOf at) (placeOf (stepAt file at .next)) (stepAt file at .parts) (subst (λ (y : FieldStep). isEnd (y .parts) ≡ true) e a) (reads file at known) in
         let over : judgeFile file ≡ endIn (s .phase) s = same ∙ ap (λ (bs : List ℕ). run bs s) (subst (λ (n : ℕ). drop n file ≡ []) place (r .1)) ∙ run-end s in
-        let n : s .fields ≡ x .number = sym number ∙ sym (stepped file at .number) ∙ sym (ap (λ (y : Step). y .number) e) in
+        let n : s .fields ≡ x .number = sym number ∙ sym (stepped file at .number) ∙ sym (ap (λ (y : FieldStep). y .number) e) in
         go p (stands .phase) stands over n
       where
-        go : (q : Phase) → phaseOf q ≡ s .phase → Standing file fs s rs v c q refs words declared → judgeFile file ≡ endIn (s .phase) s → s .fields ≡ x .number
-            → Settles file v c refs words declared (endReply q (c .definitions) (x .number))
+        go : (q : Phase) → phaseOf q ≡ s .phase → Standing file fs s rs v c q refs words → judgeFile file ≡ endIn (s .phase) s → s .fields ≡ x .number
+            → Settles file v c refs words (endReply q (c .definitions) (x .number))
         go Outside q there over n =
             record { fields = fs; state = s; rows = rs; stands = there; accepted = over ∙ ap (λ (y : rules.Phase). endIn y s) (sym q); counted = refl }
         go Begun q there over n = over ∙ ap (λ (y : rules.Phase). endIn y s) (sym q) ∙ ap (refusal 4) n
         go Inside q there over n = over ∙ ap (λ (y : rules.Phase). endIn y s) (sym q) ∙ ap (refusal 4) n
 
     -- so much for one turn
-    pub turned-end : Midway file at v c p refs words declared → (x : Step) → x ≡ stepAt file at → (b : Bool) → b ≡ isEnd (x .parts) → b ≡ true → (y : Reply)
-        → y ≡ endReply p (c .definitions) (x .number) → (t : Turn) → t ≡ stopped y at p c → Turned file at v refs words declared t
+    pub turned-end : Midway file at v c p refs words → (x : FieldStep) → x ≡ stepAt file at → (b : Bool) → b ≡ isEnd (x .parts) → b ≡ true → (y : Reply)
+        → y ≡ endReply p (c .definitions) (x .number) → (t : Turn) → t ≡ stopped y at p c → Turned file at v refs words t
     turned-end m x e b a z y q t w =
-        subst⁻¹ (Turned file at v refs words declared) w
+        subst⁻¹ (Turned file at v refs words) w
         (record {
-          over = λ d. subst⁻¹ (Settles file v c refs words declared) q (ends m x e (sym a ∙ z));
+          over = λ d. subst⁻¹ (Settles file v c refs words) q (ends m x e (sym a ∙ z));
           onward = λ d. absurd (let z : _≡_ {A = ℕ} 0 1 = cc in omega arith);
           further = λ d. absurd (let z : _≡_ {A = ℕ} 0 1 = cc in omega arith);
         })
 
-    pub turned-cut : Midway file at v c p refs words declared → (x : Step) → x ≡ stepAt file at → (b : Bool) → b ≡ isCut (x .parts) → b ≡ true
-        → (t : Turn) → t ≡ stopped (Refused 3 (x .number)) at p c → Turned file at v refs words declared t
+    pub turned-cut : Midway file at v c p refs words → (x : FieldStep) → x ≡ stepAt file at → (b : Bool) → b ≡ isCut (x .parts) → b ≡ true
+        → (t : Turn) → t ≡ stopped (Refused 3 (x .number)) at p c → Turned file at v refs words t
     turned-cut m x e b a z t w =
-        subst⁻¹ (Turned file at v refs words declared) w
+        subst⁻¹ (Turned file at v refs words) w
         (record {
           over = λ d. cut-short m x e (sym a ∙ z);
           onward = λ d. absurd (let z : _≡_ {A = ℕ} 0 1 = cc in omega arith);
           further = λ d. absurd (let z : _≡_ {A = ℕ} 0 1 = cc in omega arith);
         })
 
-    pub turned : {v′ : Store} {refs′ words′ declared′ : List ℕ} → Midway file at v c p refs words declared → (x : Step) → x ≡ stepAt file at
+    pub turned : {v′ : Store} {refs′ words′ : List ℕ} → Midway file at v c p refs words → (x : FieldStep) → x ≡ stepAt file at
         → (a b : Bool) → a ≡ isEnd (x .parts) → a ≡ false → b ≡ isCut (x .parts) → b ≡ false → (r : Judged)
-        → Judging file (x .parts) v v′ c p r refs refs′ words words′ declared declared′ → (t : Turn) → t ≡ turnOf r x → Turned file at v′ refs′ words′ declared′ t
-    turned {v′} {refs′} {words′} {declared′} m x e a b i i′ k k′ r j t w =
-        subst⁻¹ (Turned file at v′ refs′ words′ declared′) w
+        → Judging file (x .parts) v v′ c p r refs refs′ words words′ → (t : Turn) → t ≡ turnOf r x → Turned file at v′ refs′ words′ t
+    turned {v′} {refs′} {words′} m x e a b i i′ k k′ r j t w =
+        subst⁻¹ (Turned file at v′ refs′ words′) w
         (record {
           over = λ d. turned-down m x e (sym i ∙ i′) (sym k ∙ k′) r j (λ (q : r .cause ≡ 0). never (sym d ∙ ap not (eq-eqb (r .cause) 0 q)));
           onward = λ d. turn m x e (sym i ∙ i′) (sym k ∙ k′) r j (eqb-true (r .cause) 0 (not-false (eqb (r .cause) 0) d));
-          further = λ d. subst⁻¹ (λ (y : Step). (placeOf at < placeOf (y .next)) × (placeOf (y .next) ≤ length file)) e
-              (steps-on (subst (λ (y : Step). isEnd (y .parts) ≡ false) e (sym i ∙ i′)) (subst (λ (y : Step). isCut (y .parts) ≡ false) e (sym k ∙ k′)));
+          further = λ d. subst⁻¹ (λ (y : FieldStep). (placeOf at < placeOf (y .next)) × (placeOf (y .next) ≤ length file)) e
+              (steps-on (subst (λ (y : FieldStep). isEnd (y .parts) ≡ false) e (sym i ∙ i′)) (subst (λ (y : FieldStep). isCut (y .parts) ≡ false) e (sym k ∙ k′)));
         })
       where
         not-false : (b : Bool) → not b ≡ false → b ≡ true

@@ -7,8 +7,8 @@ use lib.Dec.{eqb}
 use lib.ListN.{length}
 use Rattle.fields.specs.Cursor.{placeOf}
 use Rattle.fields.specs.declared.Cursor.{Cursor}
-use Rattle.fields.specs.declared.Step.{Step}
-use Rattle.context.specs.Store.{Store}
+use Rattle.fields.specs.declared.FieldStep.{FieldStep}
+use Rattle.store.specs.Store.{Store}
 use Rattle.context.specs.declared.Counts.{Counts}
 use Rattle.judge_plain.specs.declared.Judged.{Judged}
 use Rattle.judge_plain.specs.declared.Phase.the-variants.{Begun, Inside, Outside}
@@ -28,10 +28,10 @@ abbrev pub stopped : Reply → Cursor → Phase → Counts → Turn
 stopped r at p c = record { done = true; reply = r; at = at; phase = p; counts = c }
 
 -- after a field was judged
-abbrev pub turnOf : Judged → Step → Turn
+abbrev pub turnOf : Judged → FieldStep → Turn
 turnOf j x = record { done = not (eqb (j .cause) 0); reply = Refused (j .cause) (x .number); at = x .next; phase = j .phase; counts = j .counts }
 
-pub record Turned (file : List ℕ) (at : Cursor) (v : Store) (refs words declared : List ℕ) (t : Turn) : Type 0 where
-  pub over : t .done ≡ true → Settles file v (t .counts) refs words declared (t .reply)
-  pub onward : t .done ≡ false → Midway file (t .at) v (t .counts) (t .phase) refs words declared
+pub record Turned (file : List ℕ) (at : Cursor) (v : Store) (refs words : List ℕ) (t : Turn) : Type 0 where
+  pub over : t .done ≡ true → Settles file v (t .counts) refs words (t .reply)
+  pub onward : t .done ≡ false → Midway file (t .at) v (t .counts) (t .phase) refs words
   pub further : t .done ≡ false → (placeOf at < placeOf (t .at)) × (placeOf (t .at) ≤ length file)

@@ -4,21 +4,22 @@ ghost use Prim.Native.Nat.{_≤_};
 ghost use lib.ListN.{length};
 ghost use Rattle.limits.specs.Limits.{fileBytes, maxDeclarations, maxDefinitions};
 ghost use Rattle.limits.specs.Sizes.{codeCount};
-ghost use Rattle.context.proofs.Adds.{empty};
-ghost use Rattle.context.specs.Store.{store};
 ghost use Rattle.levels.specs.Tables.{tableWords};
 ghost use Rattle.checker.specs.Settles.{Midway, Settles};
 ghost use Rattle.checker.specs.Turned.{Turned, endReply, stopped, turnOf};
 ghost use Rattle.tokens.proofs.Writing.{Bytes};
+ghost use Rattle.store.specs.Store.{empty, held};
 use crate::Reply;
 use context::Counts;
 use dispatch::judge_field;
 use fields::Cursor;
-use fields::Step;
+use fields::FieldStep;
 use fields::is_cut;
 use fields::is_end;
 use judge_plain::Judged;
 use judge_plain::Phase;
+use store::Lent;
+use store::Store;
 
 // How a file is settled: the reply, and on acceptance what was counted.
 pub struct Verdict {
@@ -60,7 +61,7 @@ fn stop(reply: Reply, at: Cursor, phase: Phase, counts: Counts) -> Turn
 }
 
 // The turn after a field was judged.
-fn turn_of(j: Judged, step: Step) -> Turn
+fn turn_of(j: Judged, step: FieldStep) -> Turn
     ensures { λ r. ⌜ r ≡ turnOf j step ⌝ }
 {
     let cause = j.cause;
@@ -80,22 +81,15 @@ fn turn_of(j: Judged, step: Step) -> Turn
 // The field at the cursor.
 fn judge_next(
     file: &[u8],
-    names: &mut [u16],
-    facts: &mut [u16],
-    contexts: &mut [u16],
-    orders: &mut [u16],
-    heads: &mut [u16],
-    refs: &mut [u16],
-    words: &mut [u64],
-    declared: &mut [u16],
-    marks: &mut [u16],
-    tally: &mut [u16],
+    store: &mut [u16; Store::LENGTH],
+    refs: &mut [u16; Lent::REFS],
+    words: &mut [u64; Lent::WORDS],
     at: Cursor,
     phase: Phase,
     c: Counts,
 ) -> Turn
-    requires { ⌜ Midway (now file) at (store (now names) (now facts) (now contexts) (now orders) (now heads)) c phase (now refs) (now words) (now declared) × Bytes (now file) × (length (now file) ≤ fileBytes) × (length (now marks) ≡ codeCount) × (length (now tally) ≡ maxDefinitions) ⌝ }
-    ensures { λ r. ⌜ Turned (now (file .entry)) at (store (now (names .exit)) (now (facts .exit)) (now (contexts .exit)) (now (orders .exit)) (now (heads .exit))) (now (refs .exit)) (now (words .exit)) (now (declared .exit)) r ⌝ }
+    requires { ⌜ Midway (now file) at (held (now store)) c phase (now refs) (now words) × Bytes (now file) × (length (now file) ≤ fileBytes) ⌝ }
+    ensures { λ r. ⌜ Turned (now (file .entry)) at (held (now (store .exit))) (now (refs .exit)) (now (words .exit)) r ⌝ }
 {
     let step = at.read(file);
     let parts = step.parts;
@@ -105,62 +99,25 @@ fn judge_next(
     if is_cut(parts) {
         return stop(Reply::Refused(3, step.number), at, phase, c);
     }
-    let j = judge_field(
-        file,
-        names,
-        facts,
-        contexts,
-        orders,
-        heads,
-        refs,
-        words,
-        declared,
-        marks,
-        tally,
-        parts,
-        phase,
-        c,
-    );
+    let j = judge_field(file, store, refs, words, parts, phase, c);
     turn_of(j, step)
 }
 
 // The fields from the first on, in empty arrays. On acceptance they show the state that the fields lead to.
 pub fn judge_fields(
     file: &[u8],
-    names: &mut [u16],
-    facts: &mut [u16],
-    contexts: &mut [u16],
-    orders: &mut [u16],
-    heads: &mut [u16],
-    refs: &mut [u16],
-    words: &mut [u64],
-    declared: &mut [u16],
-    marks: &mut [u16],
-    tally: &mut [u16],
+    store: &mut [u16; Store::LENGTH],
+    refs: &mut [u16; Lent::REFS],
+    words: &mut [u64; Lent::WORDS],
 ) -> Verdict
-    requires { ⌜ (store (now names) (now facts) (now contexts) (now orders) (now heads) ≡ empty) × (length (now refs) ≡ fileBytes) × (length (now words) ≡ tableWords) × (length (now declared) ≡ maxDeclarations) × (length (now marks) ≡ codeCount) × (length (now tally) ≡ maxDefinitions) × (length (now file) ≤ fileBytes) × Bytes (now file) ⌝ }
-    ensures { λ r. ⌜ Settles (now (file .entry)) (store (now (names .exit)) (now (facts .exit)) (now (contexts .exit)) (now (orders .exit)) (now (heads .exit))) (r .counts) (now (refs .exit)) (now (words .exit)) (now (declared .exit)) (r .reply) ⌝ }
+    requires { ⌜ (held (now store) ≡ empty) × (length (now refs) ≡ fileBytes) × (length (now words) ≡ tableWords) × (length (now file) ≤ fileBytes) × Bytes (now file) ⌝ }
+    ensures { λ r. ⌜ Settles (now (file .entry)) (held (now (store .exit))) (r .counts) (now (refs .exit)) (now (words .exit)) (r .reply) ⌝ }
 {
     let mut at = Cursor::first();
     let mut phase = Phase::Outside;
     let mut c = Counts::none();
     loop {
-        let t = judge_next(
-            file,
-            names,
-            facts,
-            contexts,
-            orders,
-            heads,
-            refs,
-            words,
-            declared,
-            marks,
-            tally,
-            at,
-            phase,
-            c,
-        );
+        let t = judge_next(file, store, refs, words, at, phase, c);
         if t.done {
             let reply = t.reply;
             let counts = t.counts;

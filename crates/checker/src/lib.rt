@@ -7,19 +7,20 @@ ghost use Prim.Native.Nat.{_≤_};
 ghost use lib.ListN.{length};
 ghost use Rattle.limits.specs.Limits.{cardMemoryBytes, fileBytes, maxDeclarations, maxDefinitions};
 ghost use Rattle.limits.specs.Sizes.{codeCount, factsLength};
-ghost use Rattle.context.proofs.Adds.{empty};
-ghost use Rattle.context.specs.Store.{store};
 ghost use Rattle.levels.specs.Tables.{tableWords};
 ghost use Rattle.rules.specs.Bytes.{isEmpty};
 ghost use Rattle.rules.specs.Run.{fileCheck};
 ghost use Rattle.tokens.proofs.Writing.{Bytes};
 ghost use Rattle.checker.specs.Reply.{answerOf};
 ghost use Rattle.checker.specs.Settles.{Concludes, Few, Leaves, wrongSize};
+ghost use Rattle.store.specs.Store.{empty, held};
 use cards::clear_cards;
 use cards::fill_cards;
 use judging::Verdict;
 use judging::judge_fields;
 use limits::Limits;
+use store::Lent;
+use store::Store;
 
 // What a check replies: the number of definitions; or a refusal's number and place.
 pub enum Reply {
@@ -28,12 +29,12 @@ pub enum Reply {
 }
 
 // The lent memory after a reply: the cards of an accepted file; else zeros.
-fn settle(reply: Reply, facts: &[u16], words: &[u64], cards: &mut [u8])
-    requires { ⌜ Few reply × (length (now facts) ≡ factsLength) × (length (now words) ≡ tableWords) × (cardMemoryBytes ≤ length (now cards)) ⌝ }
-    ensures { λ r. ⌜ Leaves (now (facts .entry)) (now (words .entry)) reply (now (cards .entry)) (now (cards .exit)) ⌝ }
+fn settle(reply: Reply, store: &[u16; Store::LENGTH], words: &[u64; Lent::WORDS], cards: &mut [u8])
+    requires { ⌜ Few reply × (cardMemoryBytes ≤ length (now cards)) ⌝ }
+    ensures { λ r. ⌜ Leaves (held (now (store .entry)) .facts) (now (words .entry)) reply (now (cards .entry)) (now (cards .exit)) ⌝ }
 {
     match reply {
-        Reply::Accepted(n) => fill_cards(facts, words, n, cards),
+        Reply::Accepted(n) => fill_cards(store, words, n, cards),
         Reply::Refused(_, _) => clear_cards(cards),
     }
 }
@@ -43,35 +44,16 @@ fn settle(reply: Reply, facts: &[u16], words: &[u64], cards: &mut [u8])
 pub fn judge_in(
     file: &[u8],
     cards: &mut [u8],
-    names: &mut [u16],
-    facts: &mut [u16],
-    contexts: &mut [u16],
-    orders: &mut [u16],
-    heads: &mut [u16],
-    refs: &mut [u16],
-    words: &mut [u64],
-    declared: &mut [u16],
-    marks: &mut [u16],
-    tally: &mut [u16],
+    store: &mut [u16; Store::LENGTH],
+    refs: &mut [u16; Lent::REFS],
+    words: &mut [u64; Lent::WORDS],
 ) -> Verdict
-    requires { ⌜ (cardMemoryBytes ≤ length (now cards)) × (isEmpty (now file) ≡ false) × (length (now file) ≤ fileBytes) × Bytes (now file) × (store (now names) (now facts) (now contexts) (now orders) (now heads) ≡ empty) × (length (now refs) ≡ fileBytes) × (length (now words) ≡ tableWords) × (length (now declared) ≡ maxDeclarations) × (length (now marks) ≡ codeCount) × (length (now tally) ≡ maxDefinitions) ⌝ }
-    ensures { λ r. ⌜ Concludes (now (file .entry)) (store (now (names .exit)) (now (facts .exit)) (now (contexts .exit)) (now (orders .exit)) (now (heads .exit))) (r .counts) (now (refs .exit)) (now (words .exit)) (now (declared .exit)) (r .reply) (now (cards .entry)) (now (cards .exit)) ⌝ }
+    requires { ⌜ (cardMemoryBytes ≤ length (now cards)) × (isEmpty (now file) ≡ false) × (length (now file) ≤ fileBytes) × Bytes (now file) × (held (now store) ≡ empty) × (length (now refs) ≡ fileBytes) × (length (now words) ≡ tableWords) ⌝ }
+    ensures { λ r. ⌜ Concludes (now (file .entry)) (held (now (store .exit))) (r .counts) (now (refs .exit)) (now (words .exit)) (r .reply) (now (cards .entry)) (now (cards .exit)) ⌝ }
 {
-    let verdict = judge_fields(
-        file,
-        names,
-        facts,
-        contexts,
-        orders,
-        heads,
-        refs,
-        words,
-        declared,
-        marks,
-        tally,
-    );
+    let verdict = judge_fields(file, store, refs, words);
     let reply = verdict.reply;
-    settle(reply, facts, words, cards);
+    settle(reply, store, words, cards);
     verdict
 }
 
@@ -80,30 +62,10 @@ fn check_fields(file: &[u8], cards: &mut [u8]) -> Reply
     requires { ⌜ (cardMemoryBytes ≤ length (now cards)) × (isEmpty (now file) ≡ false) × (length (now file) ≤ fileBytes) × Bytes (now file) ⌝ }
     ensures { λ r. ⌜ answerOf r (now (cards .exit)) ≡ fileCheck (now (file .entry)) (now (cards .entry)) ⌝ }
 {
-    let mut names = Limits::no_names();
-    let mut facts = Limits::no_facts();
-    let mut contexts = Limits::no_contexts();
-    let mut orders = Limits::no_orders();
-    let mut heads = Limits::no_heads();
-    let mut refs = [0u16; Limits::FILE_BYTES];
-    let mut words = [0u64; Limits::DEFINITIONS + Limits::DECLARATIONS];
-    let mut declared = [0u16; Limits::DECLARATIONS];
-    let mut marks = [0u16; Limits::CODES];
-    let mut tally = [0u16; Limits::DEFINITIONS];
-    let verdict = judge_in(
-        file,
-        cards,
-        &mut names,
-        &mut facts,
-        &mut contexts,
-        &mut orders,
-        &mut heads,
-        &mut refs,
-        &mut words,
-        &mut declared,
-        &mut marks,
-        &mut tally,
-    );
+    let mut store = Limits::empty_context();
+    let mut refs = [0u16; Lent::REFS];
+    let mut words = [0u64; Lent::WORDS];
+    let verdict = judge_in(file, cards, &mut store, &mut refs, &mut words);
     verdict.reply
 }
 

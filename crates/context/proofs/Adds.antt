@@ -2,18 +2,20 @@
 use borrow.Author.Tests.{le-ltb, lt-ltb}
 use mathlib.Core.List.{List, [], _++_, _∷_, append-nil}
 use mathlib.Core.Path.{_∙_, _≡_, ap, ap₂, refl, subst, subst⁻¹, sym}
-use lib.ListN.{getD, length, length-replicate, replicate, set}
+use lib.ListN.{getD, length, length-replicate, length-set, set}
 use lib.Seq.{getD-at, getD-set-other, getD-set-same, set-comm}
 use native.Mathlib.Nat.{add-zero}
 use native.Mathlib.Omega.{arith}
 use Prim.Native.Nat.{_*_, _+_, _-_, _<_, suc, ℕ}
 use Rattle.context.proofs.Begins.{hold-begin, hold-end}
-use Rattle.context.proofs.Change.{entered, fact-kind, ordered, pushed}
+use Rattle.context.proofs.Change.{fact-kind}
 use Rattle.context.proofs.Growing.{hold-define, hold-field, hold-name, hold-tick, state}
 use Rattle.context.specs.Holds.{Holds, Linked}
 use Rattle.context.specs.Parts.{part}
-use Rattle.context.specs.Store.{Store, afterDeclaration, afterDefinitions, afterEnd, afterField, begun, contextSlot, counts, declarationRow, declaring, defining, entryAt, fieldCode, grown, kindAt, noCounts, orderSlot, ownRow, pathOf, store, stored, variableKind}
-use Rattle.limits.specs.Limits.{maxDefinitions, maxModules}
+use Rattle.context.specs.Entries.{afterDeclaration, afterDefinitions, afterEnd, afterField, begun, counts, declarationRow, declaring, defining, entryAt, fieldCode, noCounts, ownRow, pathOf, variableKind}
+use Rattle.store.specs.Store.{Store, contextSlot, empty, kindAt, orderSlot}
+use Rattle.store.specs.Updates.{grown, inContext, inOrder, stored, withContexts, withDeclared, withHeads, withOrders, withRow}
+use Rattle.limits.specs.Limits.{maxDeclarations, maxDefinitions, maxModules}
 use Rattle.limits.specs.Sizes.{codeCount, contextLength, contextsLength, factsLength, headsLength, maxFields, ordersLength}
 use Rattle.rules.specs.Add.{add, ownOne, withMore}
 use Rattle.rules.specs.Expression.{Expression, expression}
@@ -22,10 +24,7 @@ use Rattle.rules.specs.State.{Added, Module, State, declares, defines, definiti
 use Rattle.theory.specs.Expand.{Definition}
 use Rattle.theory.specs.Term.{constant, variable}
 use Rattle.context.specs.declared.Counts.{Counts}
-use Rattle.context.specs.declared.Row.{Row}
-
-abbrev pub empty : Store
-empty = store (replicate codeCount 0) (replicate factsLength 0) (replicate contextsLength 0) (replicate ordersLength 0) (replicate headsLength 0)
+use Rattle.store.specs.declared.Facts.{Facts}
 
 -- nothing was added
 pub hold-start : Holds empty noCounts start
@@ -45,6 +44,7 @@ hold-start = record {
     contexts = length-replicate {A = ℕ} contextsLength 0;
     orders = length-replicate {A = ℕ} ordersLength 0;
     heads = length-replicate {A = ℕ} headsLength 0;
+    declared = length-replicate {A = ℕ} maxDeclarations 0;
     modules = omega arith;
     definitions = omega arith;
     fields = omega arith;
@@ -102,20 +102,46 @@ module _ (v : Store) (c : Counts) (s : State) (holds : Holds v c s) (room : c .f
   field-there : maxDefinitions + c .fields - maxDefinitions ≡ s .fields
   field-there = omega (arith, holds .fields)
 
+  -- the codes of the declarations are not part of what is shown
+  hold-declared : (w : Store) (d : Counts) (t : State) → Holds w d t → (i o : ℕ) → Holds (withDeclared w (set (w .declared) i o)) d t
+  hold-declared w d t h i o = record {
+    fields = h .fields;
+    declarations = h .declarations;
+    modules = h .modules;
+    definitions = h .definitions;
+    shown = h .shown;
+    described = h .described;
+    linked = h .linked;
+    known = h .known;
+    sized = record {
+      names = h .sized .names;
+      facts = h .sized .facts;
+      contexts = h .sized .contexts;
+      orders = h .sized .orders;
+      heads = h .sized .heads;
+      declared = length-set (w .declared) i o ∙ h .sized .declared;
+      modules = h .sized .modules;
+      definitions = h .sized .definitions;
+      fields = h .sized .fields;
+      context-room = h .sized .context-room;
+      order-room = h .sized .order-room;
+    };
+  }
+
   pub adds-constant : (n k : ℕ) → k < variableKind → Holds (declaring v c k n) (afterDeclaration c) (add s (declare-constant n k))
   unfolding entryAt
   adds-constant n k small =
       hold-as (declaring v c k n) (afterDeclaration c) _ (add s (declare-constant n k))
-      (hold-field v c s holds n (declarationRow k (c .declarations)) room (declares n (constant k) (s .fields)) 0 1 inside
-      (rw (le-ltb (maxDefinitions + c .fields) maxDefinitions (omega arith), kind-there k, lt-ltb k variableKind small, name-there n, field-there) refl))
+      (hold-declared _ _ _ (hold-field v c s holds n (declarationRow k (c .declarations)) room (declares n (constant k) (s .fields)) 0 1 inside
+      (rw (le-ltb (maxDefinitions + c .fields) maxDefinitions (omega arith), kind-there k, lt-ltb k variableKind small, name-there n, field-there) refl)) (c .declarations) (fieldCode (c .fields)))
       refl refl (append-nil (s .ended)) refl (append-nil (s .definitions))
 
   pub adds-variable : (n : ℕ) → Holds (declaring v c variableKind n) (afterDeclaration c) (add s (declare-variable n))
   unfolding entryAt
   adds-variable n =
       hold-as (declaring v c variableKind n) (afterDeclaration c) _ (add s (declare-variable n))
-      (hold-field v c s holds n (declarationRow variableKind (c .declarations)) room (declares n variable (s .fields)) 0 1 inside
-      (rw (le-ltb (maxDefinitions + c .fields) maxDefinitions (omega arith), kind-there variableKind, name-there n, field-there) refl))
+      (hold-declared _ _ _ (hold-field v c s holds n (declarationRow variableKind (c .declarations)) room (declares n variable (s .fields)) 0 1 inside
+      (rw (le-ltb (maxDefinitions + c .fields) maxDefinitions (omega arith), kind-there variableKind, name-there n, field-there) refl)) (c .declarations) (fieldCode (c .fields)))
       refl refl (append-nil (s .ended)) refl (append-nil (s .definitions))
 
   -- definitions
@@ -127,8 +153,8 @@ module _ (v : Store) (c : Counts) (s : State) (holds : Holds v c s) (room : c .f
     abbrev g : ℕ
     g = c .definitions
 
-    abbrev described : ℕ → Row → Store
-    described name r = ordered (entered v g name r) k g
+    abbrev described : ℕ → Facts → Store
+    described name r = inOrder (withRow v g name r) k g
 
     slot : getD (set (v .heads) (orderSlot k) (getD (v .heads) (orderSlot k) 0 + 1)) (contextSlot k) 0 ≡ getD (v .heads) (contextSlot k) 0
     slot = getD-set-other (v .heads) (orderSlot k) (contextSlot k) (getD (v .heads) (orderSlot k) 0 + 1) 0 (λ (e : contextSlot k ≡ orderSlot k). omega arith)
@@ -139,12 +165,12 @@ module _ (v : Store) (c : Counts) (s : State) (holds : Holds v c s) (room : c .f
         ap (λ (n : ℕ). set (set (v .heads) (orderSlot k) (getD (v .heads) (orderSlot k) 0 + 1)) (contextSlot k) (n + 1)) slot
         ∙ set-comm (v .heads) (orderSlot k) (contextSlot k) (getD (v .heads) (orderSlot k) 0 + 1) (getD (v .heads) (contextSlot k) 0 + 1) (λ (e : orderSlot k ≡ contextSlot k). omega arith)
 
-    store-same : (name : ℕ) (r : Row) → pushed (described name r) k g ≡ defining v c name r
+    store-same : (name : ℕ) (r : Facts) → inContext (described name r) k g ≡ defining v c name r
     store-same name r =
-        ap₂ (λ (i : ℕ) (h : List ℕ). store (set (v .names) g name) (stored (v .facts) g r) (set (v .contexts) (k * contextLength + i) g)
-        (set (v .orders) (k * maxDefinitions + getD (v .heads) (orderSlot k) 0) g) h) slot heads-same
+        ap₂ (λ (i : ℕ) (h : List ℕ). withHeads (withOrders (withContexts (withRow v g name r) (set (v .contexts) (k * contextLength + i) g))
+        (set (v .orders) (k * maxDefinitions + getD (v .heads) (orderSlot k) 0) g)) h) slot heads-same
 
-    module _ (n : ℕ) (r : Row) (d : Definition) (link : Linked g d (r .source) (r .link)) where
+    module _ (n : ℕ) (r : Facts) (d : Definition) (link : Linked g d (r .source) (r .link)) where
       abbrev new : Added
       new = record { path = pathOf (r .via); name = n; params = r .kind; bodyStart = r .first; bodyLength = r .count; meaning = d }
 
@@ -165,7 +191,7 @@ module _ (v : Store) (c : Counts) (s : State) (holds : Holds v c s) (room : c .f
       defined-one : Holds (described n r) (counts (c .fields) (c .declarations) k (g + 1)) middle
       defined-one = hold-define v c s holds n r few d link
 
-      named-one : Holds (pushed (described n r) k g) (counts (c .fields) (c .declarations) k (g + 1))
+      named-one : Holds (inContext (described n r) k g) (counts (c .fields) (c .declarations) k (g + 1))
           (state (s .fields) (s .bytes) (s .declarations) (s .phase) (s .ended) (withMore (withMore (s .current) [] (g ∷ [])) (defines (definitionAt middle g .name) g ∷ []) []) (s .definitions ++ (new ∷ [])))
       named-one =
           hold-name (described n r) (counts (c .fields) (c .declarations) k (g + 1)) middle defined-one g (omega arith)
@@ -186,7 +212,7 @@ module _ (v : Store) (c : Counts) (s : State) (holds : Holds v c s) (room : c .f
       counted-one : Holds (defining v c n r) (afterDefinitions 1 c) last
       counted-one =
           subst (λ (w : Store). Holds w (afterDefinitions 1 c) last) (store-same n r)
-          (hold-tick (pushed (described n r) k g) (counts (c .fields) (c .declarations) k (g + 1)) _ named-one 0 inside room)
+          (hold-tick (inContext (described n r) k g) (counts (c .fields) (c .declarations) k (g + 1)) _ named-one 0 inside room)
 
     pub adds-definition : (n p : ℕ) (e : Expression)
         → Holds (defining v c n (ownRow g p (s .bytes + 6) (length (expression .write e)))) (afterDefinitions 1 c) (add s (definition n p e))
@@ -196,12 +222,9 @@ module _ (v : Store) (c : Counts) (s : State) (holds : Holds v c s) (room : c .f
         (sym (with-both n own-one (ownOne s n p e .meaning) (refl, refl)
         ∙ ap (λ (i : ℕ). withMore (s .current) (defines n i ∷ []) (i ∷ [])) (holds .definitions))) refl
       where
-        own-one : Row
+        own-one : Facts
         own-one = ownRow g p (s .bytes + 6) (length (expression .write e))
 
--- the arrays after a call, by the call's equations
-pub hold-store : (v : Store) (c d : Counts) (s : State) (names facts contexts orders heads : List ℕ) → Holds v c s → d ≡ c
-    → names ≡ v .names → facts ≡ v .facts → contexts ≡ v .contexts → orders ≡ v .orders → heads ≡ v .heads → Holds (store names facts contexts orders heads) d s
-hold-store v c d s names facts contexts orders heads h q a b e f g =
-    subst⁻¹ (λ (x : Counts). Holds (store names facts contexts orders heads) x s) q
-    (subst⁻¹ (λ (w : Store). Holds w c s) {x = store names facts contexts orders heads} {y = v} (λ i. store (a i) (b i) (e i) (f i) (g i)) h)
+-- the store after a call, by the call's equations
+pub hold-store : (v w : Store) (c d : Counts) (s : State) → Holds v c s → d ≡ c → w ≡ v → Holds w d s
+hold-store v w c d s h q e = subst⁻¹ (λ (x : Counts). Holds w x s) q (subst⁻¹ (λ (u : Store). Holds u c s) e h)

@@ -8,10 +8,11 @@ use lib.ListN.{getD}
 use native.Mathlib.Omega.{arith}
 use Prim.Native.Nat.{_*_, _+_, _-_, _<_, _≤_, ℕ}
 use Rattle.context.proofs.Repeats.{code-none, code-some}
-use Rattle.context.specs.Lookup.{asCode, broughtAt, broughtIn, codeNamed, codeUnder, declaredNamed, declaresName, definesNameIn, definitionAmong, instanceAmong, isDeclared, isInstance, operatorAt, operatorIn, repeatedIn, standsUnder}
+use Rattle.context.specs.Lookup.{arityAt, asCode, broughtAt, broughtIn, codeNamed, codeUnder, declaredNamed, declaresName, definesNameIn, definitionAmong, instanceAmong, isDeclared, isInstance, operatorAt, operatorIn, repeatedIn, standsUnder}
 use Rattle.context.specs.Parts.{part, placeOf}
-use Rattle.context.specs.Store.{contextCodes, contextSlot, instanceKind, variableKind, viaAt}
-use Rattle.limits.specs.Limits.{maxDefinitions}
+use Rattle.context.specs.Entries.{contextCodes, instanceKind, variableKind}
+use Rattle.store.specs.Store.{contextSlot, viaAt}
+use Rattle.limits.specs.Limits.{maxArity, maxDefinitions}
 use Rattle.limits.specs.Sizes.{columnCount, contextLength}
 use Rattle.rules.specs.Expression.{first}
 use Rattle.theory.specs.Lists.{isSome, numbersFrom}
@@ -29,6 +30,14 @@ pub entry-found : (names contexts heads : List ℕ) (m name count : ℕ) (r : Co
 entry-found names contexts heads m name count r e f =
     let d : m * contextLength + count - m * contextLength ≡ count = omega arith in
     f ∙ ap (λ (k : ℕ). asCode (codeNamed names name (part contexts (m * contextLength) k))) (d ∙ e)
+
+-- a parameter count
+
+pub arity-over : (facts : List ℕ) (g k : ℕ) → k ≡ getD facts (columnCount * g) 0 → maxArity < k → 0 ≡ arityAt facts g
+arity-over facts g k e h = rw (← e, lt-ltb maxArity k h) refl
+
+pub arity-within : (facts : List ℕ) (g k : ℕ) → k ≡ getD facts (columnCount * g) 0 → k ≤ maxArity → k ≡ arityAt facts g
+arity-within facts g k e h = rw (← e, le-ltb maxArity k h) refl
 
 -- what holds of a part holds of a module's context
 region : (P : List ℕ → Bool) (contexts heads : List ℕ) (m count : ℕ) (r : Bool) → count ≡ getD heads (contextSlot m) 0

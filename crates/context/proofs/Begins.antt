@@ -8,7 +8,9 @@ use Prim.Native.Nat.{_+_, _<_, _≤_, suc, ℕ}
 use Rattle.context.proofs.Change.{begun-codes, begun-no-codes, begun-other, begun-same, head-context, head-length, head-order, head-other}
 use Rattle.context.proofs.Growing.{known-more, shown-within, state, up-to}
 use Rattle.context.specs.Holds.{Holds, Known, Sized}
-use Rattle.context.specs.Store.{Store, afterEnd, afterField, begun, codesOf, contextSlot, headed, moduleAt, orderSlot}
+use Rattle.context.specs.Entries.{afterEnd, afterField, begun, codesOf, moduleAt}
+use Rattle.store.specs.Store.{Store, contextSlot, orderSlot}
+use Rattle.store.specs.Updates.{headed}
 use Rattle.limits.specs.Limits.{maxDefinitions, maxModules}
 use Rattle.limits.specs.Sizes.{maxFields}
 use Rattle.rules.specs.State.{Phase, State, noModule}
@@ -43,6 +45,7 @@ module _ (v : Store) (c : Counts) (s : State) (holds : Holds v c s) where
         contexts = fits .contexts;
         orders = fits .orders;
         heads = head-length (v .heads) (c .modules) name ∙ fits .heads;
+        declared = fits .declared;
         modules = fits .modules;
         definitions = fits .definitions;
         fields = omega arith;
@@ -80,6 +83,7 @@ module _ (v : Store) (c : Counts) (s : State) (holds : Holds v c s) where
       contexts = fits .contexts;
       orders = fits .orders;
       heads = head-length (v .heads) (c .modules + 1) 0 ∙ fits .heads;
+      declared = fits .declared;
       modules = omega arith;
       definitions = fits .definitions;
       fields = omega arith;

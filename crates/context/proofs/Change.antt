@@ -8,7 +8,9 @@ use Prim.Native.Nat.{_*_, _+_, _<_, _≤_, ℕ}
 use Rattle.context.proofs.Parts.{map-each, map-snoc, part-push, part-set}
 use Rattle.context.specs.Holds.{Linked}
 use Rattle.context.specs.Parts.{part}
-use Rattle.context.specs.Store.{Store, begun, codesOf, contextSlot, describedAs, entryAt, headed, kindAt, linkAt, longer, moduleAt, orderOf, orderSlot, pathOf, sourceAt, store, stored, withCode, withNumber}
+use Rattle.context.specs.Entries.{begun, codesOf, describedAs, entryAt, moduleAt, orderOf, pathOf}
+use Rattle.store.specs.Store.{Store, contextSlot, kindAt, linkAt, orderSlot, sourceAt}
+use Rattle.store.specs.Updates.{headed, inContext, inOrder, stored, withRow}
 use Rattle.limits.specs.Limits.{maxDefinitions, maxModules}
 use Rattle.limits.specs.Sizes.{columnCount, contextLength, headsLength}
 use Rattle.rules.specs.Add.{withMore}
@@ -16,10 +18,10 @@ use Rattle.rules.specs.State.{Context, Module}
 use Rattle.theory.proofs.Lists.{map-all}
 use Rattle.theory.specs.Expand.{Definition}
 use Rattle.theory.specs.Lists.{All}
-use Rattle.context.specs.declared.Row.{Row}
+use Rattle.store.specs.declared.Facts.{Facts}
 
 -- what a code is
-module _ (facts : List ℕ) (o : ℕ) (r : Row) where
+module _ (facts : List ℕ) (o : ℕ) (r : Facts) where
   -- a place that is in no column of o
   pub fact-other : (i : ℕ) → ((k : ℕ) → k < columnCount → i ≡ columnCount * o + k → ⊥) → getD (stored facts o r) i 0 ≡ getD facts i 0
   unfolding stored
@@ -81,15 +83,6 @@ module _ (facts : List ℕ) (o : ℕ) (r : Row) where
     fact-link =
         getD-set-same (set (set (set (set (set facts (columnCount * o) (r .kind)) (columnCount * o + 1) (r .first)) (columnCount * o + 2) (r .count)) (columnCount * o + 3) (r .via)) (columnCount * o + 4) (r .source)) (columnCount * o + 5) (r .link) 0 (simp length-set (omega arith))
 
-abbrev pub entered : Store → ℕ → ℕ → Row → Store
-entered v o name r = store (set (v .names) o name) (stored (v .facts) o r) (v .contexts) (v .orders) (v .heads)
-
-abbrev pub pushed : Store → ℕ → ℕ → Store
-pushed v k o = store (v .names) (v .facts) (withCode (v .contexts) (v .heads) k o) (v .orders) (longer (v .heads) (contextSlot k))
-
-abbrev pub ordered : Store → ℕ → ℕ → Store
-ordered v k g = store (v .names) (v .facts) (v .contexts) (withNumber (v .orders) (v .heads) k g) (longer (v .heads) (orderSlot k))
-
 abbrev pub made : ℕ → Context → List ℕ → Module
 made n Γ gs = record { name = n; context = Γ; definitions = gs }
 
@@ -97,7 +90,7 @@ pub made-same : {n n′ : ℕ} {Γ Γ′ : Context} {gs gs′ : List ℕ} → n 
 made-same p q r = λ i. made (p i) (q i) (r i)
 
 -- a code that nothing mentions is given a meaning
-module _ (v : Store) (o name : ℕ) (r : Row) where
+module _ (v : Store) (o name : ℕ) (r : Facts) where
   apart : (p i : ℕ) → (p ≡ o → ⊥) → i < columnCount → getD (stored (v .facts) o r) (columnCount * p + i) 0 ≡ getD (v .facts) (columnCount * p + i) 0
   apart p i h l = fact-other (v .facts) o r (columnCount * p + i) (λ (k : ℕ) (m : k < columnCount) (e : columnCount * p + i ≡ columnCount * o + k). h (omega arith))
 
@@ -108,13 +101,13 @@ module _ (v : Store) (o name : ℕ) (r : Row) where
   unfolding entryAt
   entry-other p h = rw (getD-set-other (v .names) o p name 0 h, apart-kind p h, apart p 1 h (omega arith), apart p 2 h (omega arith))
 
-  pub enter-module : (m : ℕ) → All (λ p. p ≡ o → ⊥) (codesOf v m) → moduleAt (entered v o name r) m ≡ moduleAt v m
+  pub enter-module : (m : ℕ) → All (λ p. p ≡ o → ⊥) (codesOf v m) → moduleAt (withRow v o name r) m ≡ moduleAt v m
   enter-module m h = made-same refl (map-each _ _ (codesOf v m) (all-to (codesOf v m) h)) refl
     where
       all-to : (l : List ℕ) → All (λ p. p ≡ o → ⊥) l → All (λ p. entryAt (set (v .names) o name) (stored (v .facts) o r) p ≡ entryAt (v .names) (v .facts) p) l
       all-to l h = map-all _ _ (λ p. entry-other p) l h
 
-  pub enter-definition : (g : ℕ) (d : Definition) → (g ≡ o → ⊥) → describedAs (entered v o name r) g d ≡ describedAs v g d
+  pub enter-definition : (g : ℕ) (d : Definition) → (g ≡ o → ⊥) → describedAs (withRow v o name r) g d ≡ describedAs v g d
   enter-definition g d h =
       rw (getD-set-other (v .names) o g name 0 h, apart-kind g h, apart g 1 h (omega arith), apart g 2 h (omega arith), apart g 3 h (omega arith))
 
@@ -123,7 +116,7 @@ module _ (v : Store) (o name : ℕ) (r : Row) where
   enter-linked g d h l = rw (apart g 4 h (omega arith), apart g 5 h (omega arith)) l
 
   pub enter-new : (d : Definition) → o < length (v .names) → columnCount * o + 5 < length (v .facts)
-      → describedAs (entered v o name r) o d ≡ record { path = pathOf (r .via); name = name; params = r .kind; bodyStart = r .first; bodyLength = r .count; meaning = d }
+      → describedAs (withRow v o name r) o d ≡ record { path = pathOf (r .via); name = name; params = r .kind; bodyStart = r .first; bodyLength = r .count; meaning = d }
   enter-new d h l =
       rw (
         getD-set-same (v .names) o name 0 h,
@@ -139,45 +132,45 @@ module _ (v : Store) (o name : ℕ) (r : Row) where
 
 -- a code comes after the context of module k
 module _ (v : Store) (k o : ℕ) (few : k ≤ maxModules) where
-  pub push-codes-other : (m : ℕ) → m < k → getD (v .heads) (contextSlot m) 0 ≤ contextLength → codesOf (pushed v k o) m ≡ codesOf v m
+  pub push-codes-other : (m : ℕ) → m < k → getD (v .heads) (contextSlot m) 0 ≤ contextLength → codesOf (inContext v k o) m ≡ codesOf v m
   push-codes-other m h l =
       ap (part (set (v .contexts) (k * contextLength + getD (v .heads) (contextSlot k) 0) o) (m * contextLength))
       (getD-set-other (v .heads) (contextSlot k) (contextSlot m) (getD (v .heads) (contextSlot k) 0 + 1) 0 (λ (e : contextSlot m ≡ contextSlot k). omega arith))
       ∙ part-set (v .contexts) (k * contextLength + getD (v .heads) (contextSlot k) 0) o (m * contextLength) (getD (v .heads) (contextSlot m) 0)
       (λ (j : ℕ) (q : j < getD (v .heads) (contextSlot m) 0) (e : m * contextLength + j ≡ k * contextLength + getD (v .heads) (contextSlot k) 0). omega arith)
 
-  pub push-codes-same : contextSlot k < length (v .heads) → k * contextLength + getD (v .heads) (contextSlot k) 0 < length (v .contexts) → codesOf (pushed v k o) k ≡ codesOf v k ++ (o ∷ [])
+  pub push-codes-same : contextSlot k < length (v .heads) → k * contextLength + getD (v .heads) (contextSlot k) 0 < length (v .contexts) → codesOf (inContext v k o) k ≡ codesOf v k ++ (o ∷ [])
   push-codes-same h l =
       ap (part (set (v .contexts) (k * contextLength + getD (v .heads) (contextSlot k) 0) o) (k * contextLength))
       (getD-set-same (v .heads) (contextSlot k) (getD (v .heads) (contextSlot k) 0 + 1) 0 h)
       ∙ part-push (v .contexts) (k * contextLength) (getD (v .heads) (contextSlot k) 0) o l
 
-  push-name : (m : ℕ) → m ≤ maxModules → getD (pushed v k o .heads) m 0 ≡ getD (v .heads) m 0
+  push-name : (m : ℕ) → m ≤ maxModules → getD (inContext v k o .heads) m 0 ≡ getD (v .heads) m 0
   push-name m h = getD-set-other (v .heads) (contextSlot k) m (getD (v .heads) (contextSlot k) 0 + 1) 0 (λ (e : m ≡ contextSlot k). omega arith)
 
-  push-order : (m : ℕ) → m ≤ maxModules → orderOf (v .orders) (pushed v k o .heads) m ≡ orderOf (v .orders) (v .heads) m
+  push-order : (m : ℕ) → m ≤ maxModules → orderOf (v .orders) (inContext v k o .heads) m ≡ orderOf (v .orders) (v .heads) m
   push-order m h =
       ap (part (v .orders) (m * maxDefinitions)) (getD-set-other (v .heads) (contextSlot k) (orderSlot m) (getD (v .heads) (contextSlot k) 0 + 1) 0 (λ (e : orderSlot m ≡ contextSlot k). omega arith))
 
-  pub push-other : (m : ℕ) → m < k → getD (v .heads) (contextSlot m) 0 ≤ contextLength → moduleAt (pushed v k o) m ≡ moduleAt v m
+  pub push-other : (m : ℕ) → m < k → getD (v .heads) (contextSlot m) 0 ≤ contextLength → moduleAt (inContext v k o) m ≡ moduleAt v m
   push-other m h l = made-same (push-name m (omega arith)) (ap (map (entryAt (v .names) (v .facts))) (push-codes-other m h l)) (push-order m (omega arith))
 
   pub push-same : contextSlot k < length (v .heads) → k * contextLength + getD (v .heads) (contextSlot k) 0 < length (v .contexts)
-      → moduleAt (pushed v k o) k ≡ withMore (moduleAt v k) (entryAt (v .names) (v .facts) o ∷ []) []
+      → moduleAt (inContext v k o) k ≡ withMore (moduleAt v k) (entryAt (v .names) (v .facts) o ∷ []) []
   push-same h l =
       made-same (push-name k few) (ap (map (entryAt (v .names) (v .facts))) (push-codes-same h l) ∙ map-snoc (entryAt (v .names) (v .facts)) (codesOf v k) o)
       (push-order k few ∙ sym (append-nil (orderOf (v .orders) (v .heads) k)))
 
 -- a number comes after the definitions of module k
 module _ (v : Store) (k g : ℕ) (few : k ≤ maxModules) where
-  order-name : (m : ℕ) → m ≤ maxModules → getD (ordered v k g .heads) m 0 ≡ getD (v .heads) m 0
+  order-name : (m : ℕ) → m ≤ maxModules → getD (inOrder v k g .heads) m 0 ≡ getD (v .heads) m 0
   order-name m h = getD-set-other (v .heads) (orderSlot k) m (getD (v .heads) (orderSlot k) 0 + 1) 0 (λ (e : m ≡ orderSlot k). omega arith)
 
-  pub order-codes : (m : ℕ) → m ≤ maxModules → codesOf (ordered v k g) m ≡ codesOf v m
+  pub order-codes : (m : ℕ) → m ≤ maxModules → codesOf (inOrder v k g) m ≡ codesOf v m
   order-codes m h =
       ap (part (v .contexts) (m * contextLength)) (getD-set-other (v .heads) (orderSlot k) (contextSlot m) (getD (v .heads) (orderSlot k) 0 + 1) 0 (λ (e : contextSlot m ≡ orderSlot k). omega arith))
 
-  pub order-other : (m : ℕ) → m < k → getD (v .heads) (orderSlot m) 0 ≤ maxDefinitions → moduleAt (ordered v k g) m ≡ moduleAt v m
+  pub order-other : (m : ℕ) → m < k → getD (v .heads) (orderSlot m) 0 ≤ maxDefinitions → moduleAt (inOrder v k g) m ≡ moduleAt v m
   order-other m h l =
       made-same (order-name m (omega arith)) (ap (map (entryAt (v .names) (v .facts))) (order-codes m (omega arith)))
       (ap (part (set (v .orders) (k * maxDefinitions + getD (v .heads) (orderSlot k) 0) g) (m * maxDefinitions))
@@ -186,7 +179,7 @@ module _ (v : Store) (k g : ℕ) (few : k ≤ maxModules) where
       (λ (j : ℕ) (q : j < getD (v .heads) (orderSlot m) 0) (e : m * maxDefinitions + j ≡ k * maxDefinitions + getD (v .heads) (orderSlot k) 0). omega arith))
 
   pub order-same : orderSlot k < length (v .heads) → k * maxDefinitions + getD (v .heads) (orderSlot k) 0 < length (v .orders)
-      → moduleAt (ordered v k g) k ≡ withMore (moduleAt v k) [] (g ∷ [])
+      → moduleAt (inOrder v k g) k ≡ withMore (moduleAt v k) [] (g ∷ [])
   order-same h l =
       made-same (order-name k few) (ap (map (entryAt (v .names) (v .facts))) (order-codes k few) ∙ sym (append-nil (moduleAt v k .context)))
       (ap (part (set (v .orders) (k * maxDefinitions + getD (v .heads) (orderSlot k) 0) g) (k * maxDefinitions)) (getD-set-same (v .heads) (orderSlot k) (getD (v .heads) (orderSlot k) 0 + 1) 0 h)

@@ -21,7 +21,9 @@ use Rattle.context.specs.Holds.{Holds, Known, Sized, moduleNo}
 use Rattle.context.specs.Joining.{Below, Extendable, Extended, Marked, Small, moduleJoined}
 use Rattle.context.specs.Lookup.{codeNamed, repeatedIn}
 use Rattle.context.specs.Parts.{part, placeOf}
-use Rattle.context.specs.Store.{Store, afterField, codesOf, contextSlot, countAt, entryAt, firstAt, kindAt, moduleAt, orderOf, orderSlot, store, variableKind}
+use Rattle.context.specs.Entries.{afterField, codesOf, entryAt, moduleAt, orderOf, variableKind}
+use Rattle.store.specs.Updates.{withContexts, withHeads, withOrders}
+use Rattle.store.specs.Store.{Store, contextSlot, countAt, firstAt, kindAt, orderSlot}
 use Rattle.limits.specs.Limits.{maxDefinitions, maxModules}
 use Rattle.limits.specs.Sizes.{contextLength, maxFields}
 use Rattle.rules.specs.Add.{add, extendedDefinitions, extendedModule}
@@ -137,7 +139,7 @@ module _ (v : Store) (c : Counts) (s : State) (holds : Holds v c s) (q r : ℕ) 
   module _ (contexts : List ℕ) (same : Below (k * contextLength) (v .contexts) contexts) (size : length contexts ≡ length (v .contexts))
       (joins : part contexts (k * contextLength) r ≡ union eqb (codesOf v k) (codesOf v q)) (room : r ≤ maxDefinitions + c .fields) where
     abbrev pub withContext : Store
-    withContext = store (v .names) (v .facts) contexts (v .orders) (set (v .heads) (contextSlot k) r)
+    withContext = withHeads (withContexts v contexts) (set (v .heads) (contextSlot k) r)
 
     slot-kept : (i : ℕ) → (i ≡ contextSlot k → ⊥) → getD (set (v .heads) (contextSlot k) r) i 0 ≡ getD (v .heads) i 0
     slot-kept i h = getD-set-other (v .heads) (contextSlot k) i r 0 h
@@ -182,6 +184,7 @@ module _ (v : Store) (c : Counts) (s : State) (holds : Holds v c s) (q r : ℕ) 
         contexts = size ∙ fits .contexts;
         orders = fits .orders;
         heads = length-set (v .heads) (contextSlot k) r ∙ fits .heads;
+        declared = fits .declared;
         modules = fits .modules;
         definitions = fits .definitions;
         fields = fits .fields;
@@ -196,7 +199,7 @@ module _ (v : Store) (c : Counts) (s : State) (holds : Holds v c s) (q r : ℕ) 
   module _ (orders : List ℕ) (same : Below (k * maxDefinitions) (v .orders) orders) (size : length orders ≡ length (v .orders))
       (joins : part orders (k * maxDefinitions) r ≡ union eqb (orderOf (v .orders) (v .heads) k) (orderOf (v .orders) (v .heads) q)) (room : r ≤ c .definitions) where
     abbrev pub withOrder : Store
-    withOrder = store (v .names) (v .facts) (v .contexts) orders (set (v .heads) (orderSlot k) r)
+    withOrder = withHeads (withOrders v orders) (set (v .heads) (orderSlot k) r)
 
     place-other : (i : ℕ) → (i ≡ orderSlot k → ⊥) → getD (set (v .heads) (orderSlot k) r) i 0 ≡ getD (v .heads) i 0
     place-other i h = getD-set-other (v .heads) (orderSlot k) i r 0 h
@@ -234,6 +237,7 @@ module _ (v : Store) (c : Counts) (s : State) (holds : Holds v c s) (q r : ℕ) 
         contexts = fits .contexts;
         orders = size ∙ fits .orders;
         heads = length-set (v .heads) (orderSlot k) r ∙ fits .heads;
+        declared = fits .declared;
         modules = fits .modules;
         definitions = fits .definitions;
         fields = fits .fields;
@@ -275,57 +279,66 @@ extended-none s M = refl
 abbrev pub withOpen : State → Module → State
 withOpen s M = state (s .fields) (s .bytes) (s .declarations) (s .phase) (s .ended) M (s .definitions)
 
-module _ (v : Store) (c : Counts) (s : State) (holds : Holds v c s) (q : ℕ) (earlier : q < c .modules)
-    (contexts orders heads marks tally : List ℕ) (x : Extended (v .contexts) (v .orders) (v .heads) contexts orders heads marks tally (c .modules) q)
-    (contexts-size : length contexts ≡ length (v .contexts)) (orders-size : length orders ≡ length (v .orders))
-    (marks-size : length marks ≡ maxDefinitions + c .fields) (tally-size : length tally ≡ c .definitions) where
-  joined-context : Holds (store (v .names) (v .facts) contexts (v .orders) (set (v .heads) (contextSlot (c .modules)) (x .a))) c (withOpen s (contextJoined (s .current) (moduleNo s q)))
+module _ (v v′ : Store) (c : Counts) (s : State) (holds : Holds v c s) (q : ℕ) (earlier : q < c .modules) (marks tally : List ℕ)
+    (x : Extended v v′ marks tally (c .modules) q) (marks-size : length marks ≡ maxDefinitions + c .fields) (tally-size : length tally ≡ c .definitions) where
+  abbrev between : Store
+  between = withHeads (withContexts v (v′ .contexts)) (set (v .heads) (contextSlot (c .modules)) (x .a))
+
+  joined-context : Holds between c (withOpen s (contextJoined (s .current) (moduleNo s q)))
   joined-context =
-      hold-context v c s holds q (x .a) earlier contexts (x .contexts-below) contexts-size (x .contexts-joined)
-      (omega (arith, x .marked .full, part-length contexts (c .modules * contextLength) (x .a)))
+      hold-context v c s holds q (x .a) earlier (v′ .contexts) (x .context .below) (x .context .size) (x .context .list)
+      (omega (arith, x .context .marked .full, part-length (v′ .contexts) (c .modules * contextLength) (x .a)))
 
   kept : (i : ℕ) → (i ≡ contextSlot (c .modules) → ⊥) → getD (set (v .heads) (contextSlot (c .modules)) (x .a)) i 0 ≡ getD (v .heads) i 0
   kept i h = getD-set-other (v .heads) (contextSlot (c .modules)) i (x .a) 0 h
 
-  joined-order : Holds (store (v .names) (v .facts) contexts orders (set (set (v .heads) (contextSlot (c .modules)) (x .a)) (orderSlot (c .modules)) (x .b))) c (withOpen s (orderJoined (contextJoined (s .current) (moduleNo s q)) (getD (s .ended ++ (contextJoined (s .current) (moduleNo s q) ∷ [])) q noModule)))
+  abbrev after : Store
+  after = withHeads (withOrders (withContexts v (v′ .contexts)) (v′ .orders)) (set (set (v .heads) (contextSlot (c .modules)) (x .a)) (orderSlot (c .modules)) (x .b))
+
+  joined-order : Holds after c (withOpen s (orderJoined (contextJoined (s .current) (moduleNo s q)) (getD (s .ended ++ (contextJoined (s .current) (moduleNo s q) ∷ [])) q noModule)))
   joined-order =
-      hold-order (store (v .names) (v .facts) contexts (v .orders) (set (v .heads) (contextSlot (c .modules)) (x .a))) c (withOpen s (contextJoined (s .current) (moduleNo s q))) joined-context q (x .b) earlier
-      orders (x .orders-below) orders-size
-      (x .orders-joined
+      hold-order between c (withOpen s (contextJoined (s .current) (moduleNo s q))) joined-context q (x .b) earlier
+      (v′ .orders) (x .order .below) (x .order .size)
+      (x .order .list
       ∙ sym (ap₂ (λ (i j : ℕ). union eqb (part (v .orders) (c .modules * maxDefinitions) i) (part (v .orders) (q * maxDefinitions) j))
       (kept (orderSlot (c .modules)) (λ (z : orderSlot (c .modules) ≡ contextSlot (c .modules)). omega arith))
       (kept (orderSlot q) (λ (z : orderSlot q ≡ contextSlot (c .modules)). omega (arith, holds .sized .modules)))))
-      (omega (arith, x .tallied .full, part-length orders (c .modules * maxDefinitions) (x .b)))
+      (omega (arith, x .order .marked .full, part-length (v′ .orders) (c .modules * maxDefinitions) (x .b)))
 
-  pub hold-extend : Holds (store (v .names) (v .facts) contexts orders heads) c (withOpen s (moduleJoined (s .current) (moduleNo s q)))
+  pub hold-extend : Holds v′ c (withOpen s (moduleJoined (s .current) (moduleNo s q)))
   hold-extend =
-      subst (λ (h : List ℕ). Holds (store (v .names) (v .facts) contexts orders h) c (withOpen s (moduleJoined (s .current) (moduleNo s q)))) (sym (x .heads-set))
-      (subst (λ (N : Module). Holds (store (v .names) (v .facts) contexts orders (set (set (v .heads) (contextSlot (c .modules)) (x .a)) (orderSlot (c .modules)) (x .b))) c
-      (withOpen s (orderJoined (contextJoined (s .current) (moduleNo s q)) N))) (ended-no v c s holds (contextJoined (s .current) (moduleNo s q)) q earlier) joined-order)
+      subst (λ (u : Store). Holds u c (withOpen s (moduleJoined (s .current) (moduleNo s q)))) (sym (x .frame))
+      (subst (λ (N : Module). Holds after c (withOpen s (orderJoined (contextJoined (s .current) (moduleNo s q)) N)))
+      (ended-no v c s holds (contextJoined (s .current) (moduleNo s q)) q earlier) joined-order)
 
 -- joining is ready, where marks and tally say what is in the lists so far
 pub extendable : (v : Store) (c : Counts) (s : State) → Holds v c s → (q : ℕ) → q < c .modules → (marks tally : List ℕ) → length marks ≡ maxDefinitions + c .fields
     → length tally ≡ c .definitions → Marked marks (codesOf v (c .modules)) → Marked tally (orderOf (v .orders) (v .heads) (c .modules))
-    → All (λ g. g < c .definitions) (moduleNo s q .definitions) → Extendable (v .contexts) (v .orders) (v .heads) marks tally (c .modules) q
+    → All (λ g. g < c .definitions) (moduleNo s q .definitions) → Extendable v marks tally (c .modules) q
 extendable v c s holds q earlier marks tally a b marked tallied few =
     let room = holds .sized .context-room q (omega arith) in
     let list-room = holds .sized .order-room q (omega arith) in
     record {
-      marked = marked;
-      tallied = tallied;
-      small =
-          map-all (Known (c .fields) (c .definitions)) (Small (length marks)) (λ (o : ℕ) (k : Known (c .fields) (c .definitions) o). omega (arith, k .below))
-          (codesOf v q) (holds .known q (omega arith));
-      few = subst⁻¹ (All (Small (length tally))) (ap (λ (M : Module). M .definitions) (holds .shown q (omega arith))) (rw b few);
-      contexts-size = holds .sized .contexts;
-      orders-size = holds .sized .orders;
-      heads-size = holds .sized .heads;
-      marks-size = omega (arith, holds .sized .fields);
-      tally-size = omega (arith, holds .sized .definitions);
-      context-room = omega (arith, holds .sized .fields, holds .sized .definitions);
-      order-room = omega (arith, holds .sized .definitions);
-      earlier = earlier;
-      modules = holds .sized .modules;
+      context = record {
+        marked = marked;
+        small =
+            map-all (Known (c .fields) (c .definitions)) (Small (length marks)) (λ (o : ℕ) (k : Known (c .fields) (c .definitions) o). omega (arith, k .below))
+            (codesOf v q) (holds .known q (omega arith));
+        size = holds .sized .contexts;
+        marks-size = omega (arith, holds .sized .fields);
+        room = omega (arith, holds .sized .fields, holds .sized .definitions);
+        earlier = earlier;
+        modules = holds .sized .modules;
+      };
+      order = record {
+        marked = tallied;
+        small = subst⁻¹ (All (Small (length tally))) (ap (λ (M : Module). M .definitions) (holds .shown q (omega arith))) (rw b few);
+        size = holds .sized .orders;
+        marks-size = omega (arith, holds .sized .definitions);
+        room = omega (arith, holds .sized .definitions);
+        earlier = earlier;
+        modules = holds .sized .modules;
+      };
     }
 
 -- when every module named is joined, EXTENDS is added

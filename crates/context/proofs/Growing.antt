@@ -7,9 +7,11 @@ use lib.Seq.{getD-at, getD-set-other, getD-set-same}
 use native.Mathlib.Decide.{decLt}
 use native.Mathlib.Omega.{arith}
 use Prim.Native.Nat.{_*_, _+_, _<_, _≤_, suc, ℕ}
-use Rattle.context.proofs.Change.{enter-definition, enter-linked, enter-module, enter-new, enter-new-linked, entered, order-codes, order-other, order-same, ordered, push-codes-other, push-codes-same, push-other, push-same, pushed, stored-length}
+use Rattle.context.proofs.Change.{enter-definition, enter-linked, enter-module, enter-new, enter-new-linked, order-codes, order-other, order-same, push-codes-other, push-codes-same, push-other, push-same, stored-length}
 use Rattle.context.specs.Holds.{Holds, Known, Linked, Sized, moduleNo}
-use Rattle.context.specs.Store.{Store, codesOf, contextSlot, counts, describedAs, entryAt, fieldCode, linkAt, moduleAt, orderSlot, pathOf, sourceAt, stored}
+use Rattle.context.specs.Entries.{codesOf, counts, describedAs, entryAt, fieldCode, moduleAt, pathOf}
+use Rattle.store.specs.Store.{Store, contextSlot, linkAt, orderSlot, sourceAt}
+use Rattle.store.specs.Updates.{inContext, inOrder, stored, withRow}
 use Rattle.limits.specs.Limits.{maxDefinitions}
 use Rattle.limits.specs.Sizes.{contextLength, contextsLength, maxFields, ordersLength}
 use Rattle.rules.specs.Add.{withMore}
@@ -21,7 +23,7 @@ use Rattle.theory.specs.Expand.{Definition}
 use Rattle.theory.specs.Lists.{All}
 use Rattle.theory.specs.Term.{defined}
 use Rattle.context.specs.declared.Counts.{Counts}
-use Rattle.context.specs.declared.Row.{Row}
+use Rattle.store.specs.declared.Facts.{Facts}
 
 abbrev pub state : ℕ → ℕ → ℕ → Phase → List Module → Module → List Added → State
 state f b d p ms M ds = record { fields = f; bytes = b; declarations = d; phase = p; ended = ms; current = M; definitions = ds }
@@ -95,6 +97,7 @@ module _ (v : Store) (c : Counts) (s : State) (holds : Holds v c s) where
       contexts = fits .contexts;
       orders = fits .orders;
       heads = fits .heads;
+      declared = fits .declared;
       modules = fits .modules;
       definitions = fits .definitions;
       fields = omega arith;
@@ -104,15 +107,15 @@ module _ (v : Store) (c : Counts) (s : State) (holds : Holds v c s) where
   }
 
   -- a field that adds a name of its own: declared, or an instance
-  module _ (name : ℕ) (r : Row) (few : c .fields < maxFields) where
+  module _ (name : ℕ) (r : Facts) (few : c .fields < maxFields) where
     abbrev o : ℕ
     o = fieldCode (c .fields)
 
     abbrev entering : Store
-    entering = entered v o name r
+    entering = withRow v o name r
 
     abbrev pub withField : Store
-    withField = pushed entering (c .modules) o
+    withField = inContext entering (c .modules) o
 
     room : (m : ℕ) → m ≤ c .modules → getD (v .heads) (contextSlot m) 0 ≤ contextLength
     room m h = let within = fits .context-room m h in omega (arith, fits .definitions)
@@ -145,6 +148,7 @@ module _ (v : Store) (c : Counts) (s : State) (holds : Holds v c s) where
         contexts = length-set (v .contexts) (c .modules * contextLength + getD (v .heads) (contextSlot (c .modules)) 0) o ∙ fits .contexts;
         orders = fits .orders;
         heads = length-set (v .heads) (contextSlot (c .modules)) (getD (v .heads) (contextSlot (c .modules)) 0 + 1) ∙ fits .heads;
+        declared = fits .declared;
         modules = fits .modules;
         definitions = fits .definitions;
         fields = omega arith;
@@ -179,6 +183,7 @@ module _ (v : Store) (c : Counts) (s : State) (holds : Holds v c s) where
         contexts = fits .contexts;
         orders = fits .orders;
         heads = fits .heads;
+        declared = fits .declared;
         modules = fits .modules;
         definitions = fits .definitions;
         fields = omega arith;
@@ -188,15 +193,15 @@ module _ (v : Store) (c : Counts) (s : State) (holds : Holds v c s) where
     }
 
   -- a definition more, in the file and in the module's list; its name is not yet in the context
-  module _ (name : ℕ) (r : Row) (few : c .definitions < maxDefinitions) where
+  module _ (name : ℕ) (r : Facts) (few : c .definitions < maxDefinitions) where
     abbrev g : ℕ
     g = c .definitions
 
     abbrev describing : Store
-    describing = entered v g name r
+    describing = withRow v g name r
 
     abbrev pub withDefinition : Store
-    withDefinition = ordered describing (c .modules) g
+    withDefinition = inOrder describing (c .modules) g
 
     list-room : (m : ℕ) → m ≤ c .modules → getD (v .heads) (orderSlot m) 0 ≤ maxDefinitions
     list-room m h = let within = fits .order-room m h in omega arith
@@ -227,6 +232,7 @@ module _ (v : Store) (c : Counts) (s : State) (holds : Holds v c s) where
         contexts = fits .contexts;
         orders = length-set (v .orders) (c .modules * maxDefinitions + getD (v .heads) (orderSlot (c .modules)) 0) g ∙ fits .orders;
         heads = length-set (v .heads) (orderSlot (c .modules)) (getD (v .heads) (orderSlot (c .modules)) 0 + 1) ∙ fits .heads;
+        declared = fits .declared;
         modules = fits .modules;
         definitions = omega arith;
         fields = fits .fields;
@@ -266,7 +272,7 @@ module _ (v : Store) (c : Counts) (s : State) (holds : Holds v c s) where
   -- the name of a definition comes into the context
   module _ (code : ℕ) (there : code < c .definitions) (spare : getD (v .heads) (contextSlot (c .modules)) 0 < maxDefinitions + c .fields + c .definitions) where
     abbrev pub withName : Store
-    withName = pushed v (c .modules) code
+    withName = inContext v (c .modules) code
 
     name-room : (m : ℕ) → m ≤ c .modules → getD (v .heads) (contextSlot m) 0 ≤ contextLength
     name-room m h = let within = fits .context-room m h in omega (arith, fits .definitions, fits .fields)
@@ -304,6 +310,7 @@ module _ (v : Store) (c : Counts) (s : State) (holds : Holds v c s) where
         contexts = length-set (v .contexts) (c .modules * contextLength + getD (v .heads) (contextSlot (c .modules)) 0) code ∙ fits .contexts;
         orders = fits .orders;
         heads = length-set (v .heads) (contextSlot (c .modules)) (getD (v .heads) (contextSlot (c .modules)) 0 + 1) ∙ fits .heads;
+        declared = fits .declared;
         modules = fits .modules;
         definitions = fits .definitions;
         fields = fits .fields;

@@ -12,7 +12,8 @@ use Rattle.context.proofs.Extends.{repeats-law}
 use Rattle.context.proofs.Lookups.{cond-cases, current-no, entry-named, entryOf}
 use Rattle.context.specs.Holds.{Holds, moduleNo}
 use Rattle.context.specs.Lookup.{asCode, codeNamed, declaredNamed, declaresName, definesNameIn, definitionAmong, instanceAmong, isDeclared, isInstance, operatorAt, operatorIn, repeatedIn}
-use Rattle.context.specs.Store.{Store, codesOf, countAt, entryAt, firstAt, instanceKind, kindAt, variableKind}
+use Rattle.context.specs.Entries.{codesOf, entryAt, instanceKind, variableKind}
+use Rattle.store.specs.Store.{Store, countAt, firstAt, kindAt}
 use Rattle.limits.specs.Limits.{maxDefinitions}
 use Rattle.rules.specs.Instance.{arityIn, declaredIn, declaredOf, isConstant, isVariable, kindIn}
 use Rattle.rules.specs.Judge.{definedName, hasNamedInstance, instanceClashes}

@@ -2,7 +2,6 @@ pub mod Parts
 pub mod Search
 pub mod Repeats
 pub mod Answers
-pub mod Grows
 pub mod Marks
 pub mod Joins
 pub mod Lookups
@@ -13,3 +12,4 @@ pub mod Adds
 pub mod Extends
 pub mod Judging
 pub mod Room
+pub mod Written

@@ -13,7 +13,8 @@ use Prim.Native.Nat.{_+_, _-_, _<_, _≤_, suc, zero, ℕ}
 use Rattle.context.specs.Holds.{Holds, moduleNo}
 use Rattle.context.specs.Lookup.{asCode, broughtAt, broughtIn, codeNamed, codeUnder, operatorAt, operatorIn, standsUnder}
 use Rattle.context.specs.Parts.{part, placeOf}
-use Rattle.context.specs.Store.{Store, codesOf, entryAt, instanceKind, kindAt, pathOf, variableKind, viaAt}
+use Rattle.context.specs.Entries.{codesOf, entryAt, instanceKind, pathOf, variableKind}
+use Rattle.store.specs.Store.{Store, kindAt, viaAt}
 use Rattle.limits.specs.Limits.{maxDefinitions}
 use Rattle.laws.specs.Lawful.{holds}
 use Rattle.rules.specs.State.{Added, Context, Entry, Module, State, declares, defines, definitionAt, definitionNamed, entryNamed, instanceOf, instances, moduleNamed, nameOf, noModule, operatorNamed, operatorOf}

@@ -5,7 +5,8 @@ use native.Mathlib.Omega.{arith}
 use Prim.Native.Nat.{_*_, _+_, _<_, _≤_, ℕ}
 use Rattle.context.proofs.Parts.{part-length}
 use Rattle.context.specs.Holds.{Holds, moduleNo}
-use Rattle.context.specs.Store.{Store, contextSlot, kindAt, orderOf, orderSlot}
+use Rattle.context.specs.Entries.{orderOf}
+use Rattle.store.specs.Store.{Store, contextSlot, kindAt, orderSlot}
 use Rattle.limits.specs.Limits.{maxDefinitions}
 use Rattle.limits.specs.Sizes.{contextLength, maxFields}
 use Rattle.rules.specs.State.{Added, Module, State, paramsOf}

@@ -3,12 +3,13 @@ use mathlib.Core.List.{List, [], _∷_, _++_}
 use mathlib.Core.Path.{_≡_}
 use Prim.Native.Nat.{ℕ, _+_, _≤_, _<_}
 use lib.ListN.{getD, length}
-use Rattle.limits.specs.Limits.{maxDefinitions, maxModules}
+use Rattle.limits.specs.Limits.{maxDeclarations, maxDefinitions, maxModules}
 use Rattle.limits.specs.Sizes.{codeCount, contextsLength, factsLength, headsLength, maxFields, ordersLength}
 use Rattle.theory.specs.Expand.{Definition, brought, own}
 use Rattle.theory.specs.Lists.{All}
 use Rattle.rules.specs.State.{Module, State, definitionAt, noModule}
-use Rattle.context.specs.Store.{Store, codesOf, contextSlot, describedAs, linkAt, moduleAt, orderSlot, sourceAt}
+use Rattle.context.specs.Entries.{codesOf, describedAs, moduleAt}
+use Rattle.store.specs.Store.{Store, contextSlot, linkAt, orderSlot, sourceAt}
 use Rattle.context.specs.declared.Counts.{Counts}
 
 -- the modules by number: those ended, and then the one that is open
@@ -32,6 +33,7 @@ pub record Sized (v : Store) (c : Counts) : Type 0 where
   pub contexts : length (v .contexts) ≡ contextsLength
   pub orders : length (v .orders) ≡ ordersLength
   pub heads : length (v .heads) ≡ headsLength
+  pub declared : length (v .declared) ≡ maxDeclarations
   pub modules : c .modules ≤ maxModules
   pub definitions : c .definitions ≤ maxDefinitions
   pub fields : c .fields ≤ maxFields

@@ -6,11 +6,13 @@ use Prim.Native.Nat.{ℕ, suc, _+_, _*_, _≤_, _<_}
 use lib.Dec.{eqb}
 use lib.ListN.{getD, length, set}
 use Rattle.limits.specs.Limits.{maxDefinitions, maxModules}
-use Rattle.limits.specs.Sizes.{contextLength, contextsLength, headsLength, ordersLength}
+use Rattle.limits.specs.Sizes.{contextLength, contextsLength, ordersLength}
 use Rattle.theory.specs.Lists.{All, any, union}
 use Rattle.rules.specs.State.{Module, sameOrigin}
 use Rattle.context.specs.Parts.{part}
-use Rattle.context.specs.Store.{contextCodes, contextSlot, orderOf, orderSlot}
+use Rattle.context.specs.Entries.{codesOf, orderOf}
+use Rattle.store.specs.Store.{Store, contextSlot, orderSlot}
+use Rattle.store.specs.Updates.{withContexts, withHeads, withOrders}
 
 -- how many marks are not set
 unfoldable pub unset : List ℕ → ℕ
@@ -32,33 +34,53 @@ Small n o = o < n
 unfoldable pub joined : List ℕ → ℕ → List ℕ
 joined l x = cond (any (eqb x) l) l (l ++ (x ∷ []))
 
--- What joining module q to module k needs: marks of the codes that are there, and room,
-pub record Extendable (contexts orders heads marks tally : List ℕ) (k q : ℕ) : Type 0 where
-  pub marked : Marked marks (contextCodes contexts heads k)
-  pub tallied : Marked tally (orderOf orders heads k)
-  pub small : All (Small (length marks)) (contextCodes contexts heads q)
-  pub few : All (Small (length tally)) (orderOf orders heads q)
-  pub contexts-size : length contexts ≡ contextsLength
-  pub orders-size : length orders ≡ ordersLength
-  pub heads-size : length heads ≡ headsLength
+-- A list was joined to at base: it is l now, of length r, the marks say what is in it, and nothing changed before it.
+pub record JoinedAt (base r : ℕ) (l before after marks : List ℕ) : Type 0 where
+  pub list : part after base r ≡ l
+  pub marked : Marked marks (part after base r)
+  pub below : Below base before after
+  pub size : length after ≡ length before
+
+-- What joining the context of module q to that of module k needs: marks of the codes that are there, and room;
+pub record ContextReady (v : Store) (marks : List ℕ) (k q : ℕ) : Type 0 where
+  pub marked : Marked marks (codesOf v k)
+  pub small : All (Small (length marks)) (codesOf v q)
+  pub size : length (v .contexts) ≡ contextsLength
   pub marks-size : length marks ≤ contextLength
-  pub tally-size : length tally ≤ maxDefinitions
-  pub context-room : getD heads (contextSlot q) 0 ≤ contextLength
-  pub order-room : getD heads (orderSlot q) 0 ≤ maxDefinitions
+  pub room : getD (v .heads) (contextSlot q) 0 ≤ contextLength
   pub earlier : q < k
   pub modules : k ≤ maxModules
 
--- and what it leaves.
-pub record Extended (contexts orders heads contexts′ orders′ heads′ marks tally : List ℕ) (k q : ℕ) : Type 0 where
+-- the same of the definitions;
+pub record OrderReady (v : Store) (tally : List ℕ) (k q : ℕ) : Type 0 where
+  pub marked : Marked tally (orderOf (v .orders) (v .heads) k)
+  pub small : All (Small (length tally)) (orderOf (v .orders) (v .heads) q)
+  pub size : length (v .orders) ≡ ordersLength
+  pub marks-size : length tally ≤ maxDefinitions
+  pub room : getD (v .heads) (orderSlot q) 0 ≤ maxDefinitions
+  pub earlier : q < k
+  pub modules : k ≤ maxModules
+
+-- of both;
+pub record Extendable (v : Store) (marks tally : List ℕ) (k q : ℕ) : Type 0 where
+  pub context : ContextReady v marks k q
+  pub order : OrderReady v tally k q
+
+-- and what each of them leaves.
+pub record ContextJoined (v v′ : Store) (marks : List ℕ) (k q a : ℕ) : Type 0 where
+  pub frame : v′ ≡ withHeads (withContexts v (v′ .contexts)) (set (v .heads) (contextSlot k) a)
+  pub context : JoinedAt (k * contextLength) a (union eqb (codesOf v k) (codesOf v q)) (v .contexts) (v′ .contexts) marks
+
+pub record OrderJoined (v v′ : Store) (tally : List ℕ) (k q b : ℕ) : Type 0 where
+  pub frame : v′ ≡ withHeads (withOrders v (v′ .orders)) (set (v .heads) (orderSlot k) b)
+  pub order : JoinedAt (k * maxDefinitions) b (union eqb (orderOf (v .orders) (v .heads) k) (orderOf (v .orders) (v .heads) q)) (v .orders) (v′ .orders) tally
+
+pub record Extended (v v′ : Store) (marks tally : List ℕ) (k q : ℕ) : Type 0 where
   pub a : ℕ
   pub b : ℕ
-  pub contexts-joined : part contexts′ (k * contextLength) a ≡ union eqb (contextCodes contexts heads k) (contextCodes contexts heads q)
-  pub orders-joined : part orders′ (k * maxDefinitions) b ≡ union eqb (orderOf orders heads k) (orderOf orders heads q)
-  pub heads-set : heads′ ≡ set (set heads (contextSlot k) a) (orderSlot k) b
-  pub marked : Marked marks (part contexts′ (k * contextLength) a)
-  pub tallied : Marked tally (part orders′ (k * maxDefinitions) b)
-  pub contexts-below : Below (k * contextLength) contexts contexts′
-  pub orders-below : Below (k * maxDefinitions) orders orders′
+  pub frame : v′ ≡ withHeads (withOrders (withContexts v (v′ .contexts)) (v′ .orders)) (set (set (v .heads) (contextSlot k) a) (orderSlot k) b)
+  pub context : JoinedAt (k * contextLength) a (union eqb (codesOf v k) (codesOf v q)) (v .contexts) (v′ .contexts) marks
+  pub order : JoinedAt (k * maxDefinitions) b (union eqb (orderOf (v .orders) (v .heads) k) (orderOf (v .orders) (v .heads) q)) (v .orders) (v′ .orders) tally
 
 -- EXTENDS "brings everything of the named modules under the numbers it has": a module with the context and the definitions of another
 abbrev pub moduleJoined : Module → Module → Module

@@ -1,5 +1,5 @@
 pub mod Parts
-pub mod Store
+pub mod Entries
 pub mod Lookup
 pub mod Joining
 pub mod Holds

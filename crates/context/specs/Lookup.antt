@@ -5,9 +5,10 @@ use mathlib.Core.Option.{Option, none, some}
 use Prim.Native.Nat.{ℕ}
 use lib.Dec.{eqb, leb, ltb}
 use lib.ListN.{getD}
-use Rattle.limits.specs.Limits.{maxDefinitions}
+use Rattle.limits.specs.Limits.{maxArity, maxDefinitions}
 use Rattle.theory.specs.Lists.{any, find, isSome}
-use Rattle.context.specs.Store.{countAt, firstAt, instanceKind, kindAt, variableKind, viaAt}
+use Rattle.context.specs.Entries.{instanceKind, variableKind}
+use Rattle.store.specs.Store.{countAt, firstAt, kindAt, viaAt}
 use Rattle.context.specs.declared.Code.{Code}
 use Rattle.context.specs.declared.Code.the-variants.{At, Absent}
 use Rattle.context.specs.declared.Operator.{Operator}
@@ -29,6 +30,10 @@ codeUnder names facts i f gs = find (standsUnder names facts i f) gs
 unfoldable pub asCode : Option ℕ → Code
 asCode none = Absent
 asCode (some o) = At o
+
+-- the parameter count of definition g; none has more than the limit
+abbrev pub arityAt : List ℕ → ℕ → ℕ
+arityAt facts g = cond (ltb maxArity (kindAt facts g)) 0 (kindAt facts g)
 
 -- what a code is as an operator,
 unfoldable pub operatorAt : List ℕ → ℕ → Operator

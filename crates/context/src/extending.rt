@@ -2,13 +2,21 @@
 ghost use mathlib.Core.Path.{_≡_};
 ghost use Prim.Native.Nat.{_+_, _-_, _≤_, _<_};
 ghost use lib.Dec.{eqb};
-ghost use lib.ListN.{length, getD, set, replicate};
+ghost use lib.ListN.{length, replicate};
+ghost use Rattle.limits.specs.Sizes.{contextsLength, ordersLength};
 ghost use Rattle.theory.specs.Lists.{All, union};
+ghost use Rattle.store.specs.Store.{held};
+ghost use Rattle.store.specs.Updates.{withContexts, withOrders};
 ghost use Rattle.context.specs.Parts.{part};
-ghost use Rattle.context.specs.Joining.{Marked, Below, Small, joined, Extendable, Extended};
-ghost use Rattle.context.specs.Store.{wordCount};
-use crate::lists::number_at;
+ghost use Rattle.context.specs.Joining.{ContextJoined, ContextReady, Extendable, Extended, JoinedAt, Marked, OrderJoined, OrderReady, Small, joined};
 use limits::Limits;
+use store::Store;
+use store::reading::context_at;
+use store::reading::head_at;
+use store::reading::order_at;
+use store::writing::put_context;
+use store::writing::put_head;
+use store::writing::put_order;
 
 // Sets all marks to 0.
 pub fn clear(marks: &mut [u16])
@@ -21,90 +29,141 @@ pub fn clear(marks: &mut [u16])
     }
 }
 
-// Stores x after the count numbers at base, unless it is among them: marks says which are. Returns how many there are then.
-pub fn join(lists: &mut [u16], marks: &mut [u16], base: usize, count: usize, x: u16) -> usize
-    requires { ⌜ Marked (now marks) (part (now lists) base count) × (x < length (now marks)) × (base + length (now marks) ≤ length (now lists)) ⌝ }
-    ensures { λ r. ⌜ (part (now (lists .exit)) base r ≡ joined (part (now (lists .entry)) base count) x) × Marked (now (marks .exit)) (part (now (lists .exit)) base r) × Below base (now (lists .entry)) (now (lists .exit)) ⌝ }
+// Stores code o after the count codes at base of the contexts, unless it is among them: marks says which are. Returns how many there are then.
+pub fn join_context(
+    store: &mut [u16; Store::LENGTH],
+    marks: &mut [u16],
+    base: usize,
+    count: usize,
+    o: u16,
+) -> usize
+    requires { ⌜ Marked (now marks) (part (held (now store) .contexts) base count) × (o < length (now marks)) × (base + length (now marks) ≤ contextsLength) × (length (held (now store) .contexts) ≡ contextsLength) ⌝ }
+    ensures { λ r. ⌜ (held (now (store .exit)) ≡ withContexts (held (now (store .entry))) (held (now (store .exit)) .contexts)) × JoinedAt base r (joined (part (held (now (store .entry)) .contexts) base count) o) (held (now (store .entry)) .contexts) (held (now (store .exit)) .contexts) (now (marks .exit)) ⌝ }
 {
-    if marks[x as usize] == 0 {
-        marks[x as usize] = 1;
-        lists[base + count] = x;
+    if marks[o as usize] == 0 {
+        let place = base + count;
+        marks[o as usize] = 1;
+        put_context(store, place, o);
         return count + 1;
     }
     count
 }
 
-// Joins the numbers from place from to place end to the count numbers at base.
-pub fn unite(
-    lists: &mut [u16],
+// Joins the codes from place from to place end of the contexts to the count codes at base.
+pub fn unite_contexts(
+    store: &mut [u16; Store::LENGTH],
     marks: &mut [u16],
     from: usize,
     end: usize,
     base: usize,
     count: usize,
 ) -> usize
-    requires { ⌜ Marked (now marks) (part (now lists) base count) × All (Small (length (now marks))) (part (now lists) from (end - from)) × (base + length (now marks) ≤ length (now lists)) × (end ≤ base) ⌝ }
-    ensures { λ r. ⌜ (part (now (lists .exit)) base r ≡ union eqb (part (now (lists .entry)) base count) (part (now (lists .entry)) from (end - from))) × Marked (now (marks .exit)) (part (now (lists .exit)) base r) × Below base (now (lists .entry)) (now (lists .exit)) ⌝ }
+    requires { ⌜ Marked (now marks) (part (held (now store) .contexts) base count) × All (Small (length (now marks))) (part (held (now store) .contexts) from (end - from)) × (base + length (now marks) ≤ contextsLength) × (end ≤ base) × (length (held (now store) .contexts) ≡ contextsLength) ⌝ }
+    ensures { λ r. ⌜ (held (now (store .exit)) ≡ withContexts (held (now (store .entry))) (held (now (store .exit)) .contexts)) × JoinedAt base r (union eqb (part (held (now (store .entry)) .contexts) base count) (part (held (now (store .entry)) .contexts) from (end - from))) (held (now (store .entry)) .contexts) (held (now (store .exit)) .contexts) (now (marks .exit)) ⌝ }
 {
     let mut n = count;
     let mut i = from;
     while i < end {
-        let x = lists[i];
-        n = join(lists, marks, base, n, x);
+        let o = context_at(store, i);
+        n = join_context(store, marks, base, n, o);
         i += 1;
     }
     n
 }
 
-// Joins the list at from, whose length is at slot source, to the list at base, whose length is at slot target. Returns the new length.
-pub fn extend_list(
-    lists: &mut [u16],
-    heads: &mut [u16],
+// Joins the context of module q to that of module k. Returns its new length.
+pub fn extend_context(
+    store: &mut [u16; Store::LENGTH],
     marks: &mut [u16],
-    from: usize,
-    source: usize,
-    base: usize,
-    target: usize,
+    k: usize,
+    q: usize,
 ) -> usize
-    requires { ⌜ Marked (now marks) (part (now lists) base (getD (now heads) target 0)) × All (Small (length (now marks))) (part (now lists) from (getD (now heads) source 0)) × (base + length (now marks) ≤ length (now lists)) × (from + getD (now heads) source 0 ≤ base) × (source < length (now heads)) × (target < length (now heads)) × (length (now marks) < wordCount) ⌝ }
-    ensures { λ r. ⌜ (part (now (lists .exit)) base r ≡ union eqb (part (now (lists .entry)) base (getD (now (heads .entry)) target 0)) (part (now (lists .entry)) from (getD (now (heads .entry)) source 0))) × Marked (now (marks .exit)) (part (now (lists .exit)) base r) × Below base (now (lists .entry)) (now (lists .exit)) × (now (heads .exit) ≡ set (now (heads .entry)) target r) × (r ≤ length (now (marks .entry))) ⌝ }
+    requires { ⌜ ContextReady (held (now store)) (now marks) k q ⌝ }
+    ensures { λ r. ⌜ ContextJoined (held (now (store .entry))) (held (now (store .exit))) (now (marks .exit)) k q r ⌝ }
 {
-    let count = number_at(heads, target) as usize;
-    let end = from + (number_at(heads, source) as usize);
-    let n = unite(lists, marks, from, end, base, count);
-    heads[target] = n as u16;
+    let from = q * Limits::CONTEXT;
+    let end = from + (head_at(store, Limits::PLACES + q) as usize);
+    let slot = Limits::PLACES + k;
+    let count = head_at(store, slot) as usize;
+    let n = unite_contexts(store, marks, from, end, k * Limits::CONTEXT, count);
+    let size = n as u16;
+    put_head(store, slot, size);
+    n
+}
+
+// The same for the number of a definition, in the orders.
+pub fn join_order(
+    store: &mut [u16; Store::LENGTH],
+    tally: &mut [u16],
+    base: usize,
+    count: usize,
+    g: u16,
+) -> usize
+    requires { ⌜ Marked (now tally) (part (held (now store) .orders) base count) × (g < length (now tally)) × (base + length (now tally) ≤ ordersLength) × (length (held (now store) .orders) ≡ ordersLength) ⌝ }
+    ensures { λ r. ⌜ (held (now (store .exit)) ≡ withOrders (held (now (store .entry))) (held (now (store .exit)) .orders)) × JoinedAt base r (joined (part (held (now (store .entry)) .orders) base count) g) (held (now (store .entry)) .orders) (held (now (store .exit)) .orders) (now (tally .exit)) ⌝ }
+{
+    if tally[g as usize] == 0 {
+        let place = base + count;
+        tally[g as usize] = 1;
+        put_order(store, place, g);
+        return count + 1;
+    }
+    count
+}
+
+// The same for numbers of definitions.
+pub fn unite_orders(
+    store: &mut [u16; Store::LENGTH],
+    tally: &mut [u16],
+    from: usize,
+    end: usize,
+    base: usize,
+    count: usize,
+) -> usize
+    requires { ⌜ Marked (now tally) (part (held (now store) .orders) base count) × All (Small (length (now tally))) (part (held (now store) .orders) from (end - from)) × (base + length (now tally) ≤ ordersLength) × (end ≤ base) × (length (held (now store) .orders) ≡ ordersLength) ⌝ }
+    ensures { λ r. ⌜ (held (now (store .exit)) ≡ withOrders (held (now (store .entry))) (held (now (store .exit)) .orders)) × JoinedAt base r (union eqb (part (held (now (store .entry)) .orders) base count) (part (held (now (store .entry)) .orders) from (end - from))) (held (now (store .entry)) .orders) (held (now (store .exit)) .orders) (now (tally .exit)) ⌝ }
+{
+    let mut n = count;
+    let mut i = from;
+    while i < end {
+        let g = order_at(store, i);
+        n = join_order(store, tally, base, n, g);
+        i += 1;
+    }
+    n
+}
+
+// The same for the definitions.
+pub fn extend_order(
+    store: &mut [u16; Store::LENGTH],
+    tally: &mut [u16],
+    k: usize,
+    q: usize,
+) -> usize
+    requires { ⌜ OrderReady (held (now store)) (now tally) k q ⌝ }
+    ensures { λ r. ⌜ OrderJoined (held (now (store .entry))) (held (now (store .exit))) (now (tally .exit)) k q r ⌝ }
+{
+    let from = q * Limits::DEFINITIONS;
+    let end = from + (head_at(store, 2 * Limits::PLACES + q) as usize);
+    let slot = 2 * Limits::PLACES + k;
+    let count = head_at(store, slot) as usize;
+    let n = unite_orders(store, tally, from, end, k * Limits::DEFINITIONS, count);
+    let total = n as u16;
+    put_head(store, slot, total);
     n
 }
 
 // Joins the context and the definitions of module q to those of module k.
 pub fn extend(
-    contexts: &mut [u16],
-    orders: &mut [u16],
-    heads: &mut [u16],
+    store: &mut [u16; Store::LENGTH],
     marks: &mut [u16],
     tally: &mut [u16],
     k: usize,
     q: usize,
 )
-    requires { ⌜ Extendable (now contexts) (now orders) (now heads) (now marks) (now tally) k q ⌝ }
-    ensures { λ r. ⌜ Extended (now (contexts .entry)) (now (orders .entry)) (now (heads .entry)) (now (contexts .exit)) (now (orders .exit)) (now (heads .exit)) (now (marks .exit)) (now (tally .exit)) k q ⌝ }
+    requires { ⌜ Extendable (held (now store)) (now marks) (now tally) k q ⌝ }
+    ensures { λ r. ⌜ Extended (held (now (store .entry))) (held (now (store .exit))) (now (marks .exit)) (now (tally .exit)) k q ⌝ }
 {
-    extend_list(
-        contexts,
-        heads,
-        marks,
-        q * Limits::CONTEXT,
-        Limits::PLACES + q,
-        k * Limits::CONTEXT,
-        Limits::PLACES + k,
-    );
-    extend_list(
-        orders,
-        heads,
-        tally,
-        q * Limits::DEFINITIONS,
-        2 * Limits::PLACES + q,
-        k * Limits::DEFINITIONS,
-        2 * Limits::PLACES + k,
-    );
+    extend_context(store, marks, k, q);
+    extend_order(store, tally, k, q);
 }

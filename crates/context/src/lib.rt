@@ -1,6 +1,5 @@
-// What the fields read so far have added, in lent arrays of 16-bit numbers. specs/Store.antt says what the arrays hold, specs/Holds.antt
-// when they show a state of the rules; Limits has their sizes and makes them empty. Contracts speak of lists, by equality; the theorems in
-// proofs/ say what that means for the state.
+// What the fields read so far have added: looked up and added to in the store. specs/Entries.antt says what it shows, specs/Holds.antt when that
+// is a state of the rules. Contracts speak of lists, by equality; the theorems in proofs/ say what that means for the state.
 pub mod adding;
 pub mod extending;
 pub mod lists;
@@ -8,7 +7,7 @@ pub mod lookup;
 
 ghost use mathlib.Core.Path.{_≡_};
 ghost use Prim.Native.Nat.{_<_, _^_};
-ghost use Rattle.context.specs.Store.{noCounts, afterField};
+ghost use Rattle.context.specs.Entries.{noCounts, afterField};
 
 // A code found, or none.
 pub enum Code {
@@ -28,16 +27,6 @@ pub enum Operator {
 pub enum Brought {
     Brings(u16, u16),
     Nothing,
-}
-
-// What is kept of a code beside its name: specs/Store.antt has the table.
-pub struct Row {
-    pub kind: u16,
-    pub first: u16,
-    pub count: u16,
-    pub via: u16,
-    pub source: u16,
-    pub link: u16,
 }
 
 // Kinds above every argument count.

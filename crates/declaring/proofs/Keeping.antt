@@ -7,7 +7,7 @@ use mathlib.Core.Path.{_∙_, _≡_, ap, refl, subst, sym}
 use Prim.Native.Nat.{ℕ, _+_, _≤_, _<_}
 use native.Mathlib.Omega.{arith}
 use lib.Dec.{ltb}
-use lib.ListN.{List·getD-append, getD, length, length-append, length-set, set}
+use lib.ListN.{List·getD-append, getD, length, length-append, set}
 use lib.Seq.{getD-append-seam, getD-set-other, getD-set-same}
 use Rattle.limits.specs.Limits.{maxArity, maxDeclarations, maxDefinitions}
 use Rattle.limits.specs.Sizes.{codeCount, maxFields}
@@ -23,7 +23,8 @@ use Rattle.worlds.specs.Rows.{Row, newRows, rowsAfter}
 use Rattle.fields.specs.declared.Parts.{Parts}
 use Rattle.texts.specs.Text.{Declarations, noDeclaration}
 use Rattle.context.specs.Holds.{Holds}
-use Rattle.context.specs.Store.{Store, afterDeclaration, declarationRow, declaring, fieldCode, kindAt}
+use Rattle.context.specs.Entries.{afterDeclaration, declarationRow, declaring, fieldCode}
+use Rattle.store.specs.Store.{Store, kindAt}
 use Rattle.context.specs.declared.Counts.{Counts}
 use Rattle.context.proofs.Adds.{adds-constant, adds-variable}
 use Rattle.context.proofs.Change.{fact-kind}
@@ -92,7 +93,6 @@ module _ (decls : Declarations) (y : Kind × ℕ) (declared : List ℕ) (o : ℕ
   pub codes-more : (v : Store) → DeclaredCodes v decls declared → getD (v .names) o 0 ≡ y .1 → kindAt (v .facts) o ≡ kindNumber (y .0) → maxDefinitions ≤ o → o < codeCount
       → kindArity (y .0) ≤ maxArity → DeclaredCodes v (decls ++ (y ∷ [])) after
   codes-more v x named kind low high arity = record {
-    size = length-set declared (length decls) o ∙ size;
     named = each-more (λ d. getD (v .names) (getD after d 0) 0 ≡ getD (decls ++ (y ∷ [])) d noDeclaration .1) decls y
         (λ d l. ap (λ (e : ℕ). getD (v .names) e 0) (old-code d l) ∙ x .named d l ∙ ap (λ (z : Kind × ℕ). z .1) (old-one d l))
         (ap (λ (e : ℕ). getD (v .names) e 0) new-code ∙ named ∙ ap (λ (z : Kind × ℕ). z .1) new-one);
@@ -110,13 +110,16 @@ module _ (decls : Declarations) (y : Kind × ℕ) (declared : List ℕ) (o : ℕ
   pub early-more : (m n : ℕ) → m ≤ n → ((d : ℕ) → d < length decls → getD declared d 0 < m) → o < n → (d : ℕ) → d < length (decls ++ (y ∷ [])) → getD after d 0 < n
   early-more m n l old new = each-more (λ d. getD after d 0 < n) decls y (λ d h. omega (arith, old-code d h, old d h)) (omega (arith, new-code))
 
-module _ (file : List ℕ) (fs : List Field) (s : State) (rs : List Row) (v : Store) (c : Counts) (p : Phase) (refs words declared : List ℕ)
-    (st : Standing file fs s rs v c p refs words declared) (k : Kind) (n : ℕ) (words′ : List ℕ) (room : c .fields < maxFields)
+module _ (file : List ℕ) (fs : List Field) (s : State) (rs : List Row) (v : Store) (c : Counts) (p : Phase) (refs words : List ℕ)
+    (st : Standing file fs s rs v c p refs words) (k : Kind) (n : ℕ) (words′ : List ℕ) (room : c .fields < maxFields)
     (few : c .declarations < maxDeclarations) (small : kindArity k ≤ maxArity)
     (put : Put (itselfLevel (kindNumber k)) words words′ (maxDefinitions + c .declarations)) (lawful : judge s (fieldOf k n) ≡ none)
     (x : Parts) (at : AtField file s x (fieldOf k n)) where
   abbrev decls : Declarations
   decls = declarationsOf fs
+
+  abbrev declared : List ℕ
+  declared = v .declared
 
   abbrev v′ : Store
   v′ = declaring v c (kindNumber k) n
@@ -148,14 +151,14 @@ module _ (file : List ℕ) (fs : List Field) (s : State) (rs : List Row) (v : St
 
   codes-after : DeclaredCodes v′ (decls ++ ((k, n) ∷ [])) (set declared (length decls) o)
   codes-after =
-      codes-more decls (k, n) declared o (st .codes .size) (omega (arith, counted)) v′ (codes-kept v c v′ decls declared rows-after (st .early) (st .codes))
+      codes-more decls (k, n) declared o (st .holds .sized .declared) (omega (arith, counted)) v′ (codes-kept v c v′ decls declared rows-after (st .early) (st .codes))
       (getD-set-same (v .names) o n 0 (omega (arith, st .holds .sized .names)))
       (fact-kind (v .facts) o (declarationRow (kindNumber k) (c .declarations)) (omega (arith, st .holds .sized .facts)))
       (omega arith) (omega arith) small
 
   early-after : (d : ℕ) → d < length (decls ++ ((k, n) ∷ [])) → getD (set declared (length decls) o) d 0 < maxDefinitions + (c .fields + 1)
   early-after =
-      early-more decls (k, n) declared o (st .codes .size) (omega (arith, counted)) (maxDefinitions + c .fields) (maxDefinitions + (c .fields + 1)) (omega arith)
+      early-more decls (k, n) declared o (st .holds .sized .declared) (omega (arith, counted)) (maxDefinitions + c .fields) (maxDefinitions + (c .fields + 1)) (omega arith)
       (st .early) (omega arith)
 
   forms-after : Shows (sceneOf itselves words′) (decls ++ ((k, n) ∷ [])) s′
@@ -182,12 +185,12 @@ module _ (file : List ℕ) (fs : List Field) (s : State) (rs : List Row) (v : St
           ∙ itself-level k n us small (e ∙ ap (λ (z : Kind × ℕ). kindArity (z .0)) q) a ∙ sym (ap (λ (z : Kind × ℕ). declaredLevel (z .0) (z .1) us) q)
 
   -- All stands after the field.
-  pub declared-stands : Standing file (fs ++ (fieldOf k n ∷ [])) s′ (rowsAfter s rs (fieldOf k n)) v′ (afterDeclaration c) Inside refs words′ (set declared (c .declarations) o)
+  pub declared-stands : Standing file (fs ++ (fieldOf k n ∷ [])) s′ (rowsAfter s rs (fieldOf k n)) v′ (afterDeclaration c) Inside refs words′
   declared-stands =
       let f : Field = fieldOf k n in
-      stands-after file fs s rs v c p refs words declared st x f at lawful v′ (afterDeclaration c) Inside refs holds-after (added-phase s k n) words′ (set declared (c .declarations) o)
+      stands-after file fs s rs v c p refs words st x f at lawful v′ (afterDeclaration c) Inside refs holds-after (added-phase s k n) words′
       (declares-declaration (v .facts) c fs f (k, n) (kindNumber k) (st .declares) (declares-it k n)
-      (fields-counted file fs s rs v c p refs words declared st) room few (st .holds .sized .facts))
+      (fields-counted file fs s rs v c p refs words st) room few (st .holds .sized .facts))
       (subst (λ (ds : Declarations). DeclaredCodes v′ ds (set declared (c .declarations) o)) (sym more)
       (subst (λ (m : ℕ). DeclaredCodes v′ (decls ++ ((k, n) ∷ [])) (set declared m o)) counted codes-after))
       (subst (λ (ds : Declarations). (d : ℕ) → d < length ds → getD (set declared (c .declarations) o) d 0 < maxDefinitions + (c .fields + 1)) (sym more)
@@ -195,6 +198,6 @@ module _ (file : List ℕ) (fs : List Field) (s : State) (rs : List Row) (v : St
       (subst (λ (ds : Declarations). Shows (sceneOf itselves words′) ds s′) (sym more) forms-after)
       (subst (λ (ds : Declarations). Chained v′ (afterDeclaration c) file refs ds s′ (rowsAfter s rs f) (s′ .bytes)) (sym more)
       (all-chained v c s v′ (afterDeclaration c) (st .holds) grows file refs refs decls ((k, n) ∷ []) (s .bytes) (s′ .bytes)
-      (few-declared file fs s rs v c p refs words declared st) (same-below (s .bytes) refs) (omega (arith, bytes-more s f)) s′ [] rs (newRows s rs f)
+      (few-declared file fs s rs v c p refs words st) (same-below (s .bytes) refs) (omega (arith, bytes-more s f)) s′ [] rs (newRows s rs f)
       (added-definitions s k n) (rows-counted v c s rs (st .holds) (st .worlds)) refl (st .chained)))
       (st .refs-size) (put .size ∙ st .words-size)

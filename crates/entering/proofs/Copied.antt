@@ -13,7 +13,7 @@ use Rattle.limits.specs.Sizes.{columnCount}
 use Rattle.theory.specs.Lists.{bindOption}
 use Rattle.forms.specs.Forms.{formAt, stored}
 use Rattle.forms.proofs.Tables.{load-other, load-same, stored-length}
-use Rattle.context.specs.Store.{kindAt}
+use Rattle.store.specs.Store.{kindAt}
 use Rattle.context.specs.Lookup.{declaredNamed}
 use Rattle.entering.specs.declared.substitutes.Site.{Site}
 use Rattle.entering.specs.Substitutes.{Around, Stands, Substituted, nextWords, ofKind, sameDeclared}

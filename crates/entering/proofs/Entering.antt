@@ -11,7 +11,8 @@ use lib.ListN.{getD, length, length-set, set}
 use lib.Seq.{getD-set-same, getD-set-other}
 use Rattle.limits.specs.Limits.{maxDefinitions}
 use Rattle.context.specs.Parts.{part}
-use Rattle.context.specs.Store.{orderOf, orderSlot}
+use Rattle.context.specs.Entries.{orderOf}
+use Rattle.store.specs.Store.{orderSlot}
 use Rattle.context.proofs.Parts.{part-turn, part-end}
 use Rattle.worlds.specs.World.{In, Link, World, brings, numberIn, place}
 use Rattle.entering.specs.Numbering.{Entered, ShowsNumbers}

@@ -19,7 +19,7 @@ use Rattle.forms.proofs.Laws.{or-assoc, whole-digit}
 use Rattle.forms.proofs.Leading.{gives-append, params-length}
 use Rattle.levels.specs.Tables.{placeOf, sceneOf}
 use Rattle.levels.proofs.Heads.{same-place}
-use Rattle.context.specs.Store.{firstAt}
+use Rattle.store.specs.Store.{firstAt}
 use Rattle.context.specs.Lookup.{isDeclared}
 use Rattle.context.specs.declared.Operator.{Operator}
 use Rattle.context.specs.declared.Operator.the-variants.{Constant, Variable, Defined, Unknown}

@@ -21,7 +21,7 @@ use Rattle.texts.specs.Text.{Declarations, noDeclaration, refHead, shown}
 use Rattle.forms.specs.Forms.{formAt, Gives, levelAt, width}
 use Rattle.levels.specs.Tables.{namesOf}
 use Rattle.levels.specs.Walk.{TextForm}
-use Rattle.context.specs.Store.{kindAt}
+use Rattle.store.specs.Store.{kindAt}
 use Rattle.context.specs.Lookup.{declaredNamed}
 use Rattle.worlds.specs.World.{DeclaredBy, In, Link, World, brings, evalAt, numberIn, paramsIn}
 use Rattle.worlds.specs.Tables.{Right, Table, byTables, declaredBy}

@@ -10,7 +10,7 @@ use Rattle.limits.specs.Limits.{maxArity}
 use Rattle.theory.specs.Level.{IsLevel, highest}
 use Rattle.theory.specs.Lists.{All}
 use Rattle.theory.specs.Term.{Kind, constant, declaredLevel, kindArity, variable}
-use Rattle.context.specs.Store.{variableKind}
+use Rattle.context.specs.Entries.{variableKind}
 use Rattle.entering.specs.Itself.{itselfLevel}
 use Rattle.texts.proofs.Levels.{params-take}
 

@@ -15,7 +15,8 @@ use Rattle.forms.proofs.Tables.{load-other, load-same, stored-length}
 use Rattle.levels.specs.Tables.{namesOf}
 use Rattle.levels.specs.Walk.{TextForm}
 use Rattle.context.specs.Parts.{part}
-use Rattle.context.specs.Store.{contextCodes, contextSlot, kindAt}
+use Rattle.context.specs.Entries.{contextCodes}
+use Rattle.store.specs.Store.{contextSlot, kindAt}
 use Rattle.context.specs.Lookup.{asCode, declaredNamed}
 use Rattle.context.specs.declared.Code.{Code}
 use Rattle.context.specs.declared.Code.the-variants.{At, Absent}
@@ -25,7 +26,7 @@ use Rattle.entering.specs.declared.written.Writing.{Writing}
 use Rattle.entering.specs.declared.written.Writing.the-variants.{Written, Unwritten}
 use Rattle.entering.specs.Written.{writtenAt}
 use Rattle.entering.specs.Implied.{argumentsOf, impliedLevel, impliedRef}
-use Rattle.entering.specs.Substitutes.{Added, Around, Placed, Stands, StandsBy, Substituted, nextWords, ofKind, sameDeclared}
+use Rattle.entering.specs.Substitutes.{Added, Around, Stands, StandsAt, StandsBy, Substituted, nextWords, ofKind, sameDeclared}
 
 module _ (a : Around) (site : Site) (o : ℕ) (f : ℕ) (x : ℕ) (w : Writing) (ex : x ≡ getD (a .names) o 0)
     (ew : w ≡ writtenAt (site .count) (a .file) (site .start) x) where
@@ -45,7 +46,7 @@ module _ (a : Around) (site : Site) (o : ℕ) (f : ℕ) (x : ℕ) (w : Writing) 
       }
 
 pub placed : (a : Around) (site : Site) (o d f : ℕ) (before : List ℕ) → d < maxDeclarations → length before ≡ nextWords → Stands a site o f
-    → Placed a site o d before (stored before d f)
+    → StandsAt a site o d before (stored before d f)
 placed a site o d f before small l s =
     record { size = stored-length before d f; here = subst (Stands a site o) (sym (load-same before d f (omega arith))) s; others = λ g n. load-other before d g f n }
 
@@ -101,7 +102,7 @@ module _ (a : Around) (site : Site) (codes : List ℕ) (e d : ℕ) (q : Code) (s
       clash : (o : ℕ) → none ≡ some o → ⊥
       clash o h = let z : _≡_ {A = ℕ} 0 1 = cc in absurd (omega arith)
 
-  pub added-one : (o : ℕ) (before after : List ℕ) → q ≡ At o → Placed a site o d before after → Added a site codes e d before after
+  pub added-one : (o : ℕ) (before after : List ℕ) → q ≡ At o → StandsAt a site o d before after → Added a site codes e d before after
   added-one o before after h new =
       let z : sameDeclared (a .names) (a .facts) codes e ≡ some o = at-some (sameDeclared (a .names) (a .facts) codes e) o (sym h ∙ same) in
       record {

@@ -7,7 +7,8 @@ use Rattle.limits.specs.Limits.{maxArity, maxDeclarations, maxDefinitions}
 use Rattle.theory.specs.Lists.{paramLevels}
 use Rattle.texts.specs.Text.{named}
 use Rattle.levels.specs.Tables.{sceneOf}
-use Rattle.context.specs.Store.{contextCodes, firstAt}
+use Rattle.context.specs.Entries.{contextCodes}
+use Rattle.store.specs.Store.{firstAt}
 use Rattle.context.specs.Lookup.{asCode, codeNamed, isDeclared, operatorIn}
 use Rattle.context.specs.declared.Operator.{Operator}
 use Rattle.context.specs.declared.Operator.the-variants.{Constant, Variable, Defined, Unknown}

@@ -7,7 +7,7 @@ use Prim.Native.Nat.{ℕ}
 use lib.Dec.{eqb}
 use lib.ListN.{getD, length}
 use Rattle.forms.specs.Forms.{formAt}
-use Rattle.context.specs.Store.{kindAt}
+use Rattle.store.specs.Store.{kindAt}
 
 -- the codes e and o have one name and one kind
 unfoldable pub sameKind : List ℕ → List ℕ → ℕ → ℕ → Bool

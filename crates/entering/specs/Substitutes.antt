@@ -12,7 +12,7 @@ use Rattle.theory.specs.Lists.{bindOption}
 use Rattle.forms.specs.Forms.{Gives, formAt}
 use Rattle.levels.specs.Tables.{namesOf}
 use Rattle.levels.specs.Walk.{TextForm}
-use Rattle.context.specs.Store.{kindAt}
+use Rattle.store.specs.Store.{kindAt}
 use Rattle.context.specs.Lookup.{declaredNamed}
 use Rattle.entering.specs.declared.substitutes.Site.{Site}
 use Rattle.entering.specs.declared.written.Writing.{Writing}
@@ -67,7 +67,7 @@ pub record Stands (a : Around) (site : Site) (o : ℕ) (f : ℕ) : Type 0 where
   pub means : StandsBy a site o (writtenAt (site .count) (a .file) (site .start) (getD (a .names) o 0)) f
 
 -- the table with what stands for o at d
-pub record Placed (a : Around) (site : Site) (o d : ℕ) (before after : List ℕ) : Type 0 where
+pub record StandsAt (a : Around) (site : Site) (o d : ℕ) (before after : List ℕ) : Type 0 where
   pub size : length after ≡ length before
   pub here : Stands a site o (formAt after d)
   pub others : (g : ℕ) → g ≢ d → formAt after g ≡ formAt before g

@@ -7,17 +7,22 @@ use crate::sharing::first_same;
 use crate::written::Writing;
 use crate::written::find_substitution;
 use context::Code;
-use context::lists::number_at;
 use context::lookup::find_declaration;
 use limits::Limits;
+use store::Store;
+use store::reading::declared_at;
+use store::reading::fact_at;
+use store::reading::head_at;
+use store::reading::name_at;
 ghost use mathlib.Core.Path.{_≡_};
 ghost use Prim.Native.Nat.{_+_, _≤_, _<_};
 ghost use lib.ListN.{length};
 ghost use Rattle.limits.specs.Limits.{maxDeclarations, maxModules};
-ghost use Rattle.context.specs.Store.{contextCodes};
+ghost use Rattle.store.specs.Store.{held};
+ghost use Rattle.context.specs.Entries.{contextCodes};
 ghost use Rattle.context.specs.Lookup.{asCode};
 ghost use Rattle.levels.specs.Tables.{tableWords};
-ghost use Rattle.entering.specs.Substitutes.{Added, Fitting, Placed, Stands, Substituted, around, nextWords, ofKind, sameDeclared};
+ghost use Rattle.entering.specs.Substitutes.{Added, Fitting, Stands, StandsAt, Substituted, around, nextWords, ofKind, sameDeclared};
 
 // An INSTANCE field: the instances' parameters around it, its own, the module that it stands in, where its substitutions begin, and how
 // many there are.
@@ -29,29 +34,31 @@ pub struct Site {
     pub count: usize,
 }
 
+impl Site {
+    // The link of a field keeps the number of its module above the count of its substitutions, which takes 8 bits.
+    pub const OWNER_SHIFT: u16 = 256;
+}
+
 // The form of what stands for the declaration o.
 pub fn substitute_form(
     s: &[u8],
     refs: &[u16],
     numbers: &[u16],
     words: &[u64],
-    names: &[u16],
-    facts: &[u16],
-    contexts: &[u16],
-    heads: &[u16],
+    store: &[u16; Store::LENGTH],
     site: Site,
     o: u16,
 ) -> u64
     requires { ⌜ (length (now words) ≡ tableWords) × Fitting site ⌝ }
-    ensures { λ r. ⌜ Stands (around (now (s .entry)) (now (refs .entry)) (now (numbers .entry)) (now (words .entry)) (now (names .entry)) (now (facts .entry)) (now (contexts .entry)) (now (heads .entry))) site o r ⌝ }
+    ensures { λ r. ⌜ Stands (around (now (s .entry)) (now (refs .entry)) (now (numbers .entry)) (now (words .entry)) (held (now (store .entry)) .names) (held (now (store .entry)) .facts) (held (now (store .entry)) .contexts) (held (now (store .entry)) .heads)) site o r ⌝ }
 {
-    let name = number_at(names, o as usize);
+    let name = name_at(store, o as usize);
     let outer = site.outer;
     match find_substitution(s, site.start, site.count, name) {
         Writing::Written(at) => levels::text_form(s, refs, numbers, words, at, outer),
         Writing::Unwritten => {
-            let r = implied_ref(names, facts, contexts, heads, site.owner, name);
-            let k = arguments_of(number_at(facts, Limits::COLUMNS * (o as usize)));
+            let r = implied_ref(store, site.owner, name);
+            let k = arguments_of(fact_at(store, Limits::COLUMNS * (o as usize)));
             implied_form(numbers, words, r, outer, site.params, k)
         }
     }
@@ -63,61 +70,40 @@ fn put_substitute(
     refs: &[u16],
     numbers: &[u16],
     words: &[u64],
-    names: &[u16],
-    facts: &[u16],
-    contexts: &[u16],
-    heads: &[u16],
+    store: &[u16; Store::LENGTH],
     site: Site,
     o: u16,
     d: usize,
     next: &mut [u64],
 )
     requires { ⌜ (length (now words) ≡ tableWords) × Fitting site × (length (now next) ≡ nextWords) × (d < maxDeclarations) ⌝ }
-    ensures { λ r. ⌜ Placed (around (now (s .entry)) (now (refs .entry)) (now (numbers .entry)) (now (words .entry)) (now (names .entry)) (now (facts .entry)) (now (contexts .entry)) (now (heads .entry))) site o d (now (next .entry)) (now (next .exit)) ⌝ }
+    ensures { λ r. ⌜ StandsAt (around (now (s .entry)) (now (refs .entry)) (now (numbers .entry)) (now (words .entry)) (held (now (store .entry)) .names) (held (now (store .entry)) .facts) (held (now (store .entry)) .contexts) (held (now (store .entry)) .heads)) site o d (now (next .entry)) (now (next .exit)) ⌝ }
 {
-    let f = substitute_form(
-        s,
-        refs,
-        numbers,
-        words,
-        names,
-        facts,
-        contexts,
-        heads,
-        site,
-        o,
-    );
+    let f = substitute_form(s, refs, numbers, words, store, site, o);
     next[d] = f;
 }
 
 // o if it has the kind of e.
-fn of_kind(facts: &[u16], e: u16, o: u16) -> Code
-    ensures { λ r. ⌜ r ≡ asCode (ofKind (now (facts .entry)) e o) ⌝ }
+fn of_kind(store: &[u16; Store::LENGTH], e: u16, o: u16) -> Code
+    ensures { λ r. ⌜ r ≡ asCode (ofKind (held (now (store .entry)) .facts) e o) ⌝ }
 {
-    let k = number_at(facts, Limits::COLUMNS * (o as usize));
-    if k == number_at(facts, Limits::COLUMNS * (e as usize)) {
+    let k = fact_at(store, Limits::COLUMNS * (o as usize));
+    if k == fact_at(store, Limits::COLUMNS * (e as usize)) {
         return Code::At(o);
     }
     Code::Absent
 }
 
 // The declaration in the context of module q that has the name and the kind of e.
-fn same_declared(
-    names: &[u16],
-    facts: &[u16],
-    contexts: &[u16],
-    heads: &[u16],
-    q: usize,
-    e: u16,
-) -> Code
+fn same_declared(store: &[u16; Store::LENGTH], q: usize, e: u16) -> Code
     requires { ⌜ q ≤ maxModules ⌝ }
-    ensures { λ r. ⌜ r ≡ asCode (sameDeclared (now (names .entry)) (now (facts .entry)) (contextCodes (now (contexts .entry)) (now (heads .entry)) q) e) ⌝ }
+    ensures { λ r. ⌜ r ≡ asCode (sameDeclared (held (now (store .entry)) .names) (held (now (store .entry)) .facts) (contextCodes (held (now (store .entry)) .contexts) (held (now (store .entry)) .heads) q) e) ⌝ }
 {
-    let name = number_at(names, e as usize);
+    let name = name_at(store, e as usize);
     let from = q * Limits::CONTEXT;
-    let count = number_at(heads, Limits::PLACES + q) as usize;
-    match find_declaration(names, facts, contexts, from, from + count, name) {
-        Code::At(o) => of_kind(facts, e, o),
+    let count = head_at(store, Limits::PLACES + q) as usize;
+    match find_declaration(store, from, from + count, name) {
+        Code::At(o) => of_kind(store, e, o),
         Code::Absent => Code::Absent,
     }
 }
@@ -128,10 +114,7 @@ fn enter_substitute(
     refs: &[u16],
     numbers: &[u16],
     words: &[u64],
-    names: &[u16],
-    facts: &[u16],
-    contexts: &[u16],
-    heads: &[u16],
+    store: &[u16; Store::LENGTH],
     site: Site,
     q: usize,
     e: u16,
@@ -139,23 +122,10 @@ fn enter_substitute(
     next: &mut [u64],
 )
     requires { ⌜ (length (now words) ≡ tableWords) × Fitting site × (length (now next) ≡ nextWords) × (q ≤ maxModules) × (d < maxDeclarations) ⌝ }
-    ensures { λ r. ⌜ Added (around (now (s .entry)) (now (refs .entry)) (now (numbers .entry)) (now (words .entry)) (now (names .entry)) (now (facts .entry)) (now (contexts .entry)) (now (heads .entry))) site (contextCodes (now (contexts .entry)) (now (heads .entry)) q) e d (now (next .entry)) (now (next .exit)) ⌝ }
+    ensures { λ r. ⌜ Added (around (now (s .entry)) (now (refs .entry)) (now (numbers .entry)) (now (words .entry)) (held (now (store .entry)) .names) (held (now (store .entry)) .facts) (held (now (store .entry)) .contexts) (held (now (store .entry)) .heads)) site (contextCodes (held (now (store .entry)) .contexts) (held (now (store .entry)) .heads) q) e d (now (next .entry)) (now (next .exit)) ⌝ }
 {
-    match same_declared(names, facts, contexts, heads, q, e) {
-        Code::At(o) => put_substitute(
-            s,
-            refs,
-            numbers,
-            words,
-            names,
-            facts,
-            contexts,
-            heads,
-            site,
-            o,
-            d,
-            next,
-        ),
+    match same_declared(store, q, e) {
+        Code::At(o) => put_substitute(s, refs, numbers, words, store, site, o, d, next),
         Code::Absent => {}
     }
 }
@@ -166,40 +136,22 @@ fn enter_next(
     refs: &[u16],
     numbers: &[u16],
     words: &[u64],
-    names: &[u16],
-    facts: &[u16],
-    contexts: &[u16],
-    heads: &[u16],
-    declared: &[u16],
+    store: &[u16; Store::LENGTH],
     site: Site,
     q: usize,
     d: usize,
     next: &mut [u64],
 )
-    requires { ⌜ (length (now words) ≡ tableWords) × Fitting site × (length (now next) ≡ nextWords) × (q ≤ maxModules) × (d < maxDeclarations) × Substituted (around (now s) (now refs) (now numbers) (now words) (now names) (now facts) (now contexts) (now heads)) site (contextCodes (now contexts) (now heads) q) (now declared) d (now next) (now next) ⌝ }
-    ensures { λ r. ⌜ Substituted (around (now (s .entry)) (now (refs .entry)) (now (numbers .entry)) (now (words .entry)) (now (names .entry)) (now (facts .entry)) (now (contexts .entry)) (now (heads .entry))) site (contextCodes (now (contexts .entry)) (now (heads .entry)) q) (now (declared .entry)) (d + 1) (now (next .entry)) (now (next .exit)) ⌝ }
+    requires { ⌜ (length (now words) ≡ tableWords) × Fitting site × (length (now next) ≡ nextWords) × (q ≤ maxModules) × (d < maxDeclarations) × Substituted (around (now s) (now refs) (now numbers) (now words) (held (now store) .names) (held (now store) .facts) (held (now store) .contexts) (held (now store) .heads)) site (contextCodes (held (now store) .contexts) (held (now store) .heads) q) (held (now store) .declared) d (now next) (now next) ⌝ }
+    ensures { λ r. ⌜ Substituted (around (now (s .entry)) (now (refs .entry)) (now (numbers .entry)) (now (words .entry)) (held (now (store .entry)) .names) (held (now (store .entry)) .facts) (held (now (store .entry)) .contexts) (held (now (store .entry)) .heads)) site (contextCodes (held (now (store .entry)) .contexts) (held (now (store .entry)) .heads) q) (held (now (store .entry)) .declared) (d + 1) (now (next .entry)) (now (next .exit)) ⌝ }
 {
-    let i = first_same(names, facts, declared, d);
+    let i = first_same(store, d);
     if i < d {
         copy_form(next, i, d);
         return;
     }
-    let e = number_at(declared, d);
-    enter_substitute(
-        s,
-        refs,
-        numbers,
-        words,
-        names,
-        facts,
-        contexts,
-        heads,
-        site,
-        q,
-        e,
-        d,
-        next,
-    );
+    let e = declared_at(store, d);
+    enter_substitute(s, refs, numbers, words, store, site, q, e, d, next);
 }
 
 // The forms of what stands for the declarations of module q, in a table of their own: by number, among the first n declarations of the
@@ -209,36 +161,18 @@ pub fn enter_substitutes(
     refs: &[u16],
     numbers: &[u16],
     words: &[u64],
-    names: &[u16],
-    facts: &[u16],
-    contexts: &[u16],
-    heads: &[u16],
-    declared: &[u16],
+    store: &[u16; Store::LENGTH],
     n: usize,
     site: Site,
     q: usize,
     next: &mut [u64],
 )
     requires { ⌜ (length (now words) ≡ tableWords) × Fitting site × (length (now next) ≡ nextWords) × (q ≤ maxModules) × (n ≤ maxDeclarations) ⌝ }
-    ensures { λ r. ⌜ Substituted (around (now (s .entry)) (now (refs .entry)) (now (numbers .entry)) (now (words .entry)) (now (names .entry)) (now (facts .entry)) (now (contexts .entry)) (now (heads .entry))) site (contextCodes (now (contexts .entry)) (now (heads .entry)) q) (now (declared .entry)) n (now (next .entry)) (now (next .exit)) ⌝ }
+    ensures { λ r. ⌜ Substituted (around (now (s .entry)) (now (refs .entry)) (now (numbers .entry)) (now (words .entry)) (held (now (store .entry)) .names) (held (now (store .entry)) .facts) (held (now (store .entry)) .contexts) (held (now (store .entry)) .heads)) site (contextCodes (held (now (store .entry)) .contexts) (held (now (store .entry)) .heads) q) (held (now (store .entry)) .declared) n (now (next .entry)) (now (next .exit)) ⌝ }
 {
     let mut d: usize = 0;
     while d < n {
-        enter_next(
-            s,
-            refs,
-            numbers,
-            words,
-            names,
-            facts,
-            contexts,
-            heads,
-            declared,
-            site,
-            q,
-            d,
-            next,
-        );
+        enter_next(s, refs, numbers, words, store, site, q, d, next);
         d += 1;
     }
 }

@@ -13,7 +13,8 @@ use Rattle.laws.proofs.Sound.{length-templates}
 use Rattle.rules.specs.Field.{Field}
 use Rattle.rules.specs.Query.{expansionBytesOf, unlessLonger}
 use Rattle.rules.specs.State.{State, templatesOf}
-use Rattle.context.specs.Store.{Store, contextCodes, store}
+use Rattle.context.specs.Entries.{codesOf}
+use Rattle.store.specs.Store.{Store}
 use Rattle.context.specs.declared.Counts.{Counts}
 use Rattle.judge_plain.specs.declared.Phase.{Phase}
 use Rattle.resolve.proofs.Numbers.{declarationsOf}
@@ -78,15 +79,12 @@ module _ (file refs : List ℕ) (v : Store) (declared : List ℕ) (n : ℕ) wher
         }
 
 -- the query's term, from its string on
-module _ (file refs names facts contexts orders heads declared : List ℕ) (c : Counts) (m : ℕ) (expr shapes a : List ℕ) (room : ℕ) (fits : Bool) (len : ℕ)
+module _ (file refs : List ℕ) (v : Store) (c : Counts) (m : ℕ) (expr shapes a : List ℕ) (room : ℕ) (fits : Bool) (len : ℕ)
     (short : length file ≤ fileBytes)
-    (shaped : DefinitionsShaped file refs (store names facts contexts orders heads) declared (c .declarations) (c .definitions) shapes)
-    (spelt : QueryString expr names facts (contextCodes contexts heads m) declared shapes a room fits len) where
-  abbrev v : Store
-  v = store names facts contexts orders heads
-
-  module _ (fs : List Field) (s : State) (rs : List Row) (p : Phase) (words : List ℕ) (standing : Standing file fs s rs v c p refs words declared) where
-    told : Told file refs v declared (c .declarations)
+    (shaped : DefinitionsShaped file refs v (v .declared) (c .declarations) (c .definitions) shapes)
+    (spelt : QueryString expr (v .names) (v .facts) (codesOf v m) (v .declared) shapes a room fits len) where
+  module _ (fs : List Field) (s : State) (rs : List Row) (p : Phase) (words : List ℕ) (standing : Standing file fs s rs v c p refs words) where
+    told : Told file refs v (v .declared) (c .declarations)
     told =
         record {
           counts = c;
@@ -94,18 +92,18 @@ module _ (file refs names facts contexts orders heads declared : List ℕ) (c : 
           rows = rs;
           decls = declarationsOf fs;
           end = s .bytes;
-          ready = standing-ready file fs s rs v c p refs words declared standing;
-          room = standing-room file fs s rs v c p refs words declared standing;
+          ready = standing-ready file fs s rs v c p refs words standing;
+          room = standing-room file fs s rs v c p refs words standing;
           short = omega (arith, standing .inside);
           within = standing .within;
           depths = standing .depths;
         }
 
     module _ (t : Expr) (e : ℕ) (is-found : exprAt maxNesting expr 0 ≡ found t e)
-        (low : LooksBelow (maxDefinitions + length (declarationsOf fs)) (byContext names facts (contextCodes contexts heads m)) t) (n : ℕ) (few : n ≤ maxArity)
-        (w : WellFormed (aritiesOf (templatesOf s)) n 0 (termIn (byContext names facts (contextCodes contexts heads m)) (declarationsOf fs) (placeOf 0 0 itselves) t)) where
+        (low : LooksBelow (maxDefinitions + length (declarationsOf fs)) (byContext (v .names) (v .facts) (codesOf v m)) t) (n : ℕ) (few : n ≤ maxArity)
+        (w : WellFormed (aritiesOf (templatesOf s)) n 0 (termIn (byContext (v .names) (v .facts) (codesOf v m)) (declarationsOf fs) (placeOf 0 0 itselves) t)) where
       term : Term
-      term = termIn (byContext names facts (contextCodes contexts heads m)) (declarationsOf fs) (placeOf 0 0 itselves) t
+      term = termIn (byContext (v .names) (v .facts) (codesOf v m)) (declarationsOf fs) (placeOf 0 0 itselves) t
 
       known : (g k : ℕ) → aritiesOf (templatesOf s) g ≡ some k → g < length (s .definitions)
       known g k e = omega (arith, known-below (templatesOf s) g k e, length-templates [] (s .definitions))
@@ -133,29 +131,29 @@ module _ (file refs names facts contexts orders heads declared : List ℕ) (c : 
           → Reports (unlessLonger (expansionBytesOf s term) (length out)) (Refused 18 0) out out
       unfolding told term
       short-reply f big out =
-          long-reply file refs v declared (c .declarations) told n term w
+          long-reply file refs v (v .declared) (c .declarations) told n term w
           (too-long (senseOf s (shapesOf shapes)) n term its-stands (inl (omega (arith, its-string .short f)))) out
 
-      whole-reply : fits ≡ true → (r : Expanded) (out out′ : List ℕ) → StringReplies file refs v declared (c .declarations) shapes a len r out out′
+      whole-reply : fits ≡ true → (r : Expanded) (out out′ : List ℕ) → StringReplies file refs v (v .declared) (c .declarations) shapes a len r out out′
           → Reports (unlessLonger (expansionBytesOf s term) (length out)) r out out′
       unfolding told term
       whole-reply f r out out′ replies =
           replies .reply told (shaped .fit) right n term w
           record { term = term; same = same-refl (senseOf s (shapesOf shapes)) term; stands = its-stands; spelt = its-string .spelt f .0 }
 
-  pub query-short : fits ≡ false → workBytes ≤ room → (out : List ℕ) → RepliesTo file refs names facts contexts orders heads declared c m expr (Refused 18 0) out out
+  pub query-short : fits ≡ false → workBytes ≤ room → (out : List ℕ) → RepliesTo file refs v c m expr (Refused 18 0) out out
   unfolding term
   query-short f big out =
       record { reply = λ fs s rs p words standing t e is-found low n few w. short-reply fs s rs p words standing t e is-found low n few w f big out }
 
-  pub query-whole : fits ≡ true → (r : Expanded) (out out′ : List ℕ) → StringReplies file refs v declared (c .declarations) shapes a len r out out′
-      → RepliesTo file refs names facts contexts orders heads declared c m expr r out out′
+  pub query-whole : fits ≡ true → (r : Expanded) (out out′ : List ℕ) → StringReplies file refs v (v .declared) (c .declarations) shapes a len r out out′
+      → RepliesTo file refs v c m expr r out out′
   unfolding term
   query-whole f r out out′ replies =
       record { reply = λ fs s rs p words standing t e is-found low n few w. whole-reply fs s rs p words standing t e is-found low n few w f r out out′ replies }
 
   -- A string that fits is no longer than the memory.
-  pub query-over : fits ≡ true → room < len → (out : List ℕ) → RepliesTo file refs names facts contexts orders heads declared c m expr (Refused 18 0) out out
+  pub query-over : fits ≡ true → room < len → (out : List ℕ) → RepliesTo file refs v c m expr (Refused 18 0) out out
   query-over f over out =
       record {
         reply = λ fs s rs p words standing t e is-found low n few w.

@@ -17,7 +17,8 @@ use Rattle.rules.specs.Expression.{Expression, expression, overLimit}
 use Rattle.rules.specs.Field.{Field}
 use Rattle.rules.specs.State.{State, resolve, templatesOf}
 use Rattle.context.specs.Holds.{moduleNo}
-use Rattle.context.specs.Store.{Store, codesOf}
+use Rattle.context.specs.Entries.{codesOf}
+use Rattle.store.specs.Store.{Store}
 use Rattle.context.specs.declared.Counts.{Counts}
 use Rattle.judge_plain.specs.declared.Phase.{Phase}
 use Rattle.levels.proofs.Numbered.{numbers-at}
@@ -78,30 +79,30 @@ mutual
 
 -- Module q is ended; the bytes spell the expression e, which keeps the limits, and which was walked with n parameters: no name is unknown, no
 -- argument count wrong.
-module _ (file : List ℕ) (fs : List Field) (s : State) (rs : List Row) (v : Store) (c : Counts) (p : Phase) (refs words declared′ : List ℕ)
-    (stands : Standing file fs s rs v c p refs words declared′) (q : ℕ) (ended : q < c .modules) (expr : List ℕ) (bytes : Bytes expr) (e : Expression)
+module _ (file : List ℕ) (fs : List Field) (s : State) (rs : List Row) (v : Store) (c : Counts) (p : Phase) (refs words′ : List ℕ)
+    (stands : Standing file fs s rs v c p refs words′) (q : ℕ) (ended : q < c .modules) (expr : List ℕ) (bytes : Bytes expr) (e : Expression)
     (spelt : expression .read expr ≡ some e) (kept : overLimit e ≡ false) (n r : ℕ)
     (asked : NamesAsked (v .names) (v .facts) (codesOf v q) n (exprAt maxNesting expr 0) r) where
   pub text : Expr
-  text = tree file fs s rs v c p refs words declared′ stands q ended expr bytes e spelt kept n r asked .0
+  text = tree file fs s rs v c p refs words′ stands q ended expr bytes e spelt kept n r asked .0
 
   pub text-found : exprAt maxNesting expr 0 ≡ found text (0 + length expr)
   unfolding text
-  text-found = tree file fs s rs v c p refs words declared′ stands q ended expr bytes e spelt kept n r asked .1
+  text-found = tree file fs s rs v c p refs words′ stands q ended expr bytes e spelt kept n r asked .1
 
   pub text-low : LooksBelow (maxDefinitions + length (declarationsOf fs)) (byContext (v .names) (v .facts) (codesOf v q)) text
   unfolding text
   text-low =
       looks-low (numberIn (v .names) (v .facts) (codesOf v q)) (maxDefinitions + length (declarationsOf fs)) text
-      (low file fs s rs v c p refs words declared′ stands q ended expr bytes e spelt kept n r asked)
+      (low file fs s rs v c p refs words′ stands q ended expr bytes e spelt kept n r asked)
 
   pub text-term : asked .unknown ≡ false
       → termIn (byContext (v .names) (v .facts) (codesOf v q)) (declarationsOf fs) (placeOf 0 0 itselves) text ≡ resolve s (moduleNo s q .context) e
   unfolding text
   text-term known =
-      term-here (numberIn (v .names) (v .facts) (codesOf v q)) (table file fs s rs v c p refs words declared′ stands q ended expr bytes e spelt kept n r asked)
-      (declarationsOf fs) text (reads file fs s rs v c p refs words declared′ stands q ended expr bytes e spelt kept n r asked)
-      ∙ asked-right file fs s rs v c p refs words declared′ stands q ended expr bytes e spelt kept n r asked .resolved known text (0 + length expr) text-found
+      term-here (numberIn (v .names) (v .facts) (codesOf v q)) (table file fs s rs v c p refs words′ stands q ended expr bytes e spelt kept n r asked)
+      (declarationsOf fs) text (reads file fs s rs v c p refs words′ stands q ended expr bytes e spelt kept n r asked)
+      ∙ asked-right file fs s rs v c p refs words′ stands q ended expr bytes e spelt kept n r asked .resolved known text (0 + length expr) text-found
 
   pub text-formed : asked .unknown ≡ false → asked .miscounted ≡ false → WellFormed (aritiesOf (templatesOf s)) n 0 (resolve s (moduleNo s q .context) e)
-  text-formed known counted = formed file fs s rs v c p refs words declared′ stands q ended expr bytes e spelt kept n r asked known counted
+  text-formed known counted = formed file fs s rs v c p refs words′ stands q ended expr bytes e spelt kept n r asked known counted

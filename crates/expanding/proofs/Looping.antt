@@ -8,7 +8,7 @@ use lib.ListN.{length}
 use native.Mathlib.Omega.{arith}
 use Prim.Native.Nat.{_-_, _<_, _≤_, max, min, suc, ℕ}
 use Rattle.limits.specs.Limits.{maxDefinitions}
-use Rattle.context.specs.Store.{Store}
+use Rattle.store.specs.Store.{Store}
 use Rattle.rules.specs.State.{State}
 use Rattle.strings.specs.Read.{highestCall, stringAt}
 use Rattle.strings.specs.declared.Filled.{Filled}

@@ -16,7 +16,7 @@ use Rattle.laws.proofs.Invariant.{arity-known}
 use Rattle.laws.proofs.Replacing.{known-below}
 use Rattle.laws.proofs.Sound.{length-templates}
 use Rattle.rules.specs.State.{State, paramsOf, templatesOf}
-use Rattle.context.specs.Store.{Store}
+use Rattle.store.specs.Store.{Store}
 use Rattle.strings.proofs.Reading.{stands}
 use Rattle.strings.proofs.Standing.{highest-there}
 use Rattle.strings.specs.Read.{far, highestCall, stringAt}

@@ -8,6 +8,7 @@ use Prim.Native.Nat.{ℕ, _+_, _<_, _≤_}
 use native.Mathlib.Omega.{arith}
 use lib.Dec.{eqb}
 use lib.ListN.{length}
+use Rattle.store.specs.Store.{Store}
 use Rattle.limits.specs.Limits.{maxArity, maxNesting}
 use Rattle.theory.specs.Term.{Term}
 use Rattle.rules.specs.Expression.{Expression, expression, overArity, overLimit}
@@ -24,7 +25,7 @@ use Rattle.agree.specs.Folds.{searching}
 use Rattle.agree.proofs.Expressions.{whole-agrees, whole-read}
 use Rattle.context.specs.Holds.{moduleNo}
 use Rattle.context.specs.Parts.{part, placeOf}
-use Rattle.context.specs.Store.{contextCodes, store}
+use Rattle.context.specs.Entries.{codesOf}
 use Rattle.context.specs.declared.Counts.{Counts}
 use Rattle.resolve.specs.Walk.{miscountedIn}
 use Rattle.skimming.specs.Kept.{isPassed}
@@ -115,7 +116,7 @@ module _ (n : ℕ) (expr : List ℕ) (bytes : Bytes expr) where
       go false h = absurd (omega (arith, bytes-none h))
 
 -- The reply in a module m that is ended.
-module _ (file refs names facts contexts orders heads declared : List ℕ) (c : Counts) (m n : ℕ) (expr : List ℕ) (bytes : Bytes expr) (out : List ℕ) where
+module _ (file refs : List ℕ) (v : Store) (c : Counts) (m n : ℕ) (expr : List ℕ) (bytes : Bytes expr) (out : List ℕ) where
   abbrev End : State → Term → Outcome (List ℕ)
   End s t = unlessLonger (expansionBytesOf s t) (length out)
 
@@ -124,7 +125,7 @@ module _ (file refs names facts contexts orders heads declared : List ℕ) (c : 
 
   -- 3 and 5
   reply-bytes : (r : ℕ) → r ≡ bytesCause n expr bytes → (r ≡ 0 → ⊥)
-      → RepliesIn file refs names facts contexts orders heads declared c m n expr (Refused r (c .fields)) out out
+      → RepliesIn file refs v c m n expr (Refused r (c .fields)) out out
   reply-bytes r is-r h = record { reply = λ fs s rs p words stands ended. (go s (stands .holds .fields) (wholeOf expr) refl, refl) }
     where
       go : (s : State) → c .fields ≡ s .fields → (b : Bool) → wholeOf expr ≡ b → Reply s (expression .read expr) ≡ refusal r (c .fields)
@@ -138,7 +139,7 @@ module _ (file refs names facts contexts orders heads declared : List ℕ) (c : 
           (resolve s (moduleNo s m .context) (y .0)) (End s) (λ z. h (law ∙ z))
           ∙ sym (ap₂ refusal law f)
 
-  module _ (clear : bytesCause n expr bytes ≡ 0) (k : ℕ) (asked : NamesAsked names facts (contextCodes contexts heads m) n (exprAt maxNesting expr 0) k) where
+  module _ (clear : bytesCause n expr bytes ≡ 0) (k : ℕ) (asked : NamesAsked (v .names) (v .facts) (codesOf v m) n (exprAt maxNesting expr 0) k) where
     spelt : (e : Expression) × (expression .read expr ≡ some e) × (limits (overArity n) (overLimit e) ≡ 0)
     spelt = clear-spelt n expr bytes clear
 
@@ -146,11 +147,11 @@ module _ (file refs names facts contexts orders heads declared : List ℕ) (c : 
     causes = no-limit (overArity n) (overLimit (spelt .0)) (spelt .2)
 
     module _ (fs : List Field) (s : State) (rs : List Row) (p : Phase) (words : List ℕ)
-        (stands : Standing file fs s rs (store names facts contexts orders heads) c p refs words declared) (ended : m < c .modules) where
+        (stands : Standing file fs s rs v c p refs words) (ended : m < c .modules) where
       names-law : k ≡ names-wrong (unknown s (moduleNo s m .context) n (spelt .0)) (miscounted s (moduleNo s m .context) (spelt .0))
       unfolding nameCause
       names-law =
-          let right = asked-right file fs s rs (store names facts contexts orders heads) c p refs words declared stands m ended expr bytes (spelt .0) (spelt .1) (causes .1) n k
+          let right = asked-right file fs s rs v c p refs words stands m ended expr bytes (spelt .0) (spelt .1) (causes .1) n k
           asked in
           asked .cause ∙ ap₂ names-wrong (right .cause-9) (right .cause-10)
 
@@ -186,23 +187,22 @@ module _ (file refs names facts contexts orders heads declared : List ℕ) (c : 
       few : n ≤ maxArity
       few = ltb-false maxArity n (causes .0)
 
-      whole : k ≡ 0 → (r : Expanded) (out′ : List ℕ) → RepliesTo file refs names facts contexts orders heads declared c m expr r out out′
+      whole : k ≡ 0 → (r : Expanded) (out′ : List ℕ) → RepliesTo file refs v c m expr r out out′
           → Reports (End s (resolve s (moduleNo s m .context) (spelt .0))) r out out′
       whole z r out′ to =
           let a = answers z in
-          let v = store names facts contexts orders heads in
-          let term = text-term file fs s rs v c p refs words declared stands m ended expr bytes (spelt .0) (spelt .1) (causes .1) n k asked (a .0) in
-          let formed = text-formed file fs s rs v c p refs words declared stands m ended expr bytes (spelt .0) (spelt .1) (causes .1) n k asked (a .0) (a .1) in
+          let term = text-term file fs s rs v c p refs words stands m ended expr bytes (spelt .0) (spelt .1) (causes .1) n k asked (a .0) in
+          let formed = text-formed file fs s rs v c p refs words stands m ended expr bytes (spelt .0) (spelt .1) (causes .1) n k asked (a .0) (a .1) in
           subst (λ (t : Term). Reports (End s t) r out out′) term
-          (to .reply fs s rs p words stands (text file fs s rs v c p refs words declared stands m ended expr bytes (spelt .0) (spelt .1) (causes .1) n k asked)
-          (0 + length expr) (text-found file fs s rs v c p refs words declared stands m ended expr bytes (spelt .0) (spelt .1) (causes .1) n k asked)
-          (text-low file fs s rs v c p refs words declared stands m ended expr bytes (spelt .0) (spelt .1) (causes .1) n k asked) n few (rw term formed))
+          (to .reply fs s rs p words stands (text file fs s rs v c p refs words stands m ended expr bytes (spelt .0) (spelt .1) (causes .1) n k asked)
+          (0 + length expr) (text-found file fs s rs v c p refs words stands m ended expr bytes (spelt .0) (spelt .1) (causes .1) n k asked)
+          (text-low file fs s rs v c p refs words stands m ended expr bytes (spelt .0) (spelt .1) (causes .1) n k asked) n few (rw term formed))
 
-    reply-names : (k ≡ 0 → ⊥) → RepliesIn file refs names facts contexts orders heads declared c m n expr (Refused k (c .fields)) out out
+    reply-names : (k ≡ 0 → ⊥) → RepliesIn file refs v c m n expr (Refused k (c .fields)) out out
     reply-names h = record { reply = λ fs s rs p words stands ended. (names-refused fs s rs p words stands ended h, refl) }
 
-    reply-whole : k ≡ 0 → (r : Expanded) (out′ : List ℕ) → RepliesTo file refs names facts contexts orders heads declared c m expr r out out′
-        → RepliesIn file refs names facts contexts orders heads declared c m n expr r out out′
+    reply-whole : k ≡ 0 → (r : Expanded) (out′ : List ℕ) → RepliesTo file refs v c m expr r out out′
+        → RepliesIn file refs v c m n expr r out out′
     reply-whole z r out′ to =
         record {
           reply = λ fs s rs p words stands ended.
@@ -211,20 +211,20 @@ module _ (file refs names facts contexts orders heads declared : List ℕ) (c : 
 
   -- a ninth parameter is 5
   pub reply-many : maxArity < n → (r : ℕ) → r ≡ limitCause expr
-      → RepliesIn file refs names facts contexts orders heads declared c m n expr (Refused r (c .fields)) out out
+      → RepliesIn file refs v c m n expr (Refused r (c .fields)) out out
   reply-many h r e = reply-bytes r (e ∙ sym (bytes-many n expr bytes h)) (λ z. limit-some expr (sym e ∙ z))
 
   -- what was read
-  module _ (few : n ≤ maxArity) (shapes a : List ℕ) (q : Queried) (read : QueryRead expr names facts (contextCodes contexts heads m) declared shapes n a workBytes q) where
+  module _ (few : n ≤ maxArity) (shapes a : List ℕ) (q : Queried) (read : QueryRead expr (v .names) (v .facts) (codesOf v m) (v .declared) shapes n a workBytes q) where
     passed : isPassed (limitAt expr 0) ≡ not (q .kept)
     passed =
         ap isPassed (sym (limited expr 0 (keptOf (exprAt maxNesting expr 0)) refl))
-        ∙ kept-passed (searching (miscountedIn names facts (contextCodes contexts heads m))) 0 (exprAt maxNesting expr 0) (q .kept) (q .looked .miscounted)
+        ∙ kept-passed (searching (miscountedIn (v .names) (v .facts) (codesOf v m))) 0 (exprAt maxNesting expr 0) (q .kept) (q .looked .miscounted)
         (q .looked .next) (read .skims .miscounted)
 
     ends : q .kept ≡ true → wholeOf expr ≡ eqb (q .looked .next) (length expr)
     ends k =
-        kept-whole (searching (miscountedIn names facts (contextCodes contexts heads m))) 0 expr (q .kept) (q .looked .miscounted) (q .looked .next)
+        kept-whole (searching (miscountedIn (v .names) (v .facts) (codesOf v m))) 0 expr (q .kept) (q .looked .miscounted) (q .looked .next)
         (read .skims .miscounted) k
 
     bytes-read : (b : Bool) → q .kept ≡ b → bytesCause n expr bytes ≡ cond b (cond (eqb (q .looked .next) (length expr)) 0 3) (limitCause expr)
@@ -233,18 +233,18 @@ module _ (file refs names facts contexts orders heads declared : List ℕ) (c : 
     bytes-read false k = bytes-few n expr bytes few ∙ rw (passed, k) refl
 
     asked : q .kept ≡ true → (k : ℕ) → k ≡ nameCause (q .looked .unknown) (q .looked .miscounted)
-        → NamesAsked names facts (contextCodes contexts heads m) n (exprAt maxNesting expr 0) k
+        → NamesAsked (v .names) (v .facts) (codesOf v m) n (exprAt maxNesting expr 0) k
     asked h k e =
-        kept-asked names facts (contextCodes contexts heads m) n expr (q .kept) (q .looked .unknown) (q .looked .miscounted) (q .looked .next) (read .skims .unknown)
+        kept-asked (v .names) (v .facts) (codesOf v m) n expr (q .kept) (q .looked .unknown) (q .looked .miscounted) (q .looked .next) (read .skims .unknown)
         (read .skims .miscounted) h k e
 
     pub reply-cause : (r : ℕ) → r ≡ readCause expr q → (r ≡ 0 → ⊥)
-        → RepliesIn file refs names facts contexts orders heads declared c m n expr (Refused r (c .fields)) out out
+        → RepliesIn file refs v c m n expr (Refused r (c .fields)) out out
     unfolding readCause
     reply-cause r is-r h = go (q .kept) refl (eqb (q .looked .next) (length expr)) refl
       where
         go : (b : Bool) → q .kept ≡ b → (w : Bool) → eqb (q .looked .next) (length expr) ≡ w
-            → RepliesIn file refs names facts contexts orders heads declared c m n expr (Refused r (c .fields)) out out
+            → RepliesIn file refs v c m n expr (Refused r (c .fields)) out out
         go true k true w = reply-names (bytes-read true k ∙ rw w refl) r (asked k r (is-r ∙ rw (k, w) refl)) h
         go true k false w =
             let e : readCause expr q ≡ 3 = rw (k, w) refl in
@@ -262,38 +262,38 @@ module _ (file refs names facts contexts orders heads declared : List ℕ) (c : 
         go true k = k
         go false k = absurd (limit-some expr (sym (rw k refl) ∙ z))
 
-    pub reply-clear : readCause expr q ≡ 0 → (r : Expanded) (out′ : List ℕ) → RepliesTo file refs names facts contexts orders heads declared c m expr r out out′
-        → RepliesIn file refs names facts contexts orders heads declared c m n expr r out out′
+    pub reply-clear : readCause expr q ≡ 0 → (r : Expanded) (out′ : List ℕ) → RepliesTo file refs v c m expr r out out′
+        → RepliesIn file refs v c m n expr r out out′
     unfolding readCause
     reply-clear z r out′ to = go (eqb (q .looked .next) (length expr)) refl
       where
         kept : q .kept ≡ true
         kept = read-kept z
 
-        go : (w : Bool) → eqb (q .looked .next) (length expr) ≡ w → RepliesIn file refs names facts contexts orders heads declared c m n expr r out out′
+        go : (w : Bool) → eqb (q .looked .next) (length expr) ≡ w → RepliesIn file refs v c m n expr r out out′
         go true w = reply-whole (bytes-read true kept ∙ rw w refl) 0 (asked kept 0 (sym z ∙ rw (kept, w) refl)) refl r out′ to
         go false w = absurd (let y : _≡_ {A = ℕ} 3 0 = sym (rw (kept, w) refl) ∙ z in omega arith)
 
 -- The reply by a module's name.
-module _ (file refs names facts contexts orders heads declared : List ℕ) (c : Counts) (m n : ℕ) (expr out : List ℕ) (q : ℕ)
-    (place : q ≡ placeOf m (part heads 0 (c .modules))) where
+module _ (file refs : List ℕ) (v : Store) (c : Counts) (m n : ℕ) (expr out : List ℕ) (q : ℕ)
+    (place : q ≡ placeOf m (part (v .heads) 0 (c .modules))) where
   abbrev ByModule : State → Option Module → Outcome (List ℕ)
   ByModule s o = andThen (andThen (orNoSuch o) (λ M. readIn s M [] n (expression .read expr))) (λ t. unlessLonger (expansionBytesOf s t) (length out))
 
   -- 17
-  pub reply-no-module : c .modules ≤ q → RepliesOf file refs names facts contexts orders heads declared c m n expr (Refused 17 0) out out
+  pub reply-no-module : c .modules ≤ q → RepliesOf file refs v c m n expr (Refused 17 0) out out
   reply-no-module h =
       record {
-        reply = λ fs s rs p words stands. (ap (ByModule s) (no-module (store names facts contexts orders heads) c s (stands .holds) m q place h), refl);
+        reply = λ fs s rs p words stands. (ap (ByModule s) (no-module v c s (stands .holds) m q place h), refl);
       }
 
   -- the reply in the module found
-  pub reply-there : (r : Expanded) (out′ : List ℕ) → q < c .modules → RepliesIn file refs names facts contexts orders heads declared c q n expr r out out′
-      → RepliesOf file refs names facts contexts orders heads declared c m n expr r out out′
+  pub reply-there : (r : Expanded) (out′ : List ℕ) → q < c .modules → RepliesIn file refs v c q n expr r out out′
+      → RepliesOf file refs v c m n expr r out out′
   reply-there r out′ ended a =
       record {
         reply = λ fs s rs p words stands.
             subst (λ (x : Outcome (List ℕ)). Reports x r out out′)
-            (sym (ap (ByModule s) (found-module (store names facts contexts orders heads) c s (stands .holds) m q place ended)))
+            (sym (ap (ByModule s) (found-module v c s (stands .holds) m q place ended)))
             (a .reply fs s rs p words stands ended);
       }

@@ -5,6 +5,7 @@ use mathlib.Core.Path.{_≡_}
 use Prim.Native.Nat.{ℕ, _+_, _≤_, _<_}
 use lib.Dec.{eqb}
 use lib.ListN.{length}
+use Rattle.store.specs.Store.{Store}
 use Rattle.limits.specs.Limits.{fileBytes, maxArity, maxDefinitions, maxNesting}
 use Rattle.theory.specs.Expand.{aritiesOf}
 use Rattle.theory.specs.Term.{WellFormed}
@@ -15,7 +16,7 @@ use Rattle.rules.specs.Run.{andThen}
 use Rattle.rules.specs.State.{State, templatesOf}
 use Rattle.tokens.specs.Expr.{Expr, exprAt, found, wholeOf}
 use Rattle.context.specs.Holds.{moduleNo}
-use Rattle.context.specs.Store.{contextCodes, store}
+use Rattle.context.specs.Entries.{codesOf}
 use Rattle.context.specs.declared.Counts.{Counts}
 use Rattle.judge_plain.specs.declared.Phase.{Phase}
 use Rattle.resolve.proofs.Numbers.{declarationsOf}
@@ -38,29 +39,29 @@ readCause expr q =
     cond (q .kept) (cond (eqb (q .looked .next) (length expr)) (nameCause (q .looked .unknown) (q .looked .miscounted)) 3) (limitCause expr)
 
 -- The reply to an expression without causes, in module m.
-pub record RepliesTo (file refs names facts contexts orders heads declared : List ℕ) (c : Counts) (m : ℕ) (expr : List ℕ) (r : Expanded) (before after : List ℕ) : Type 0 where
+pub record RepliesTo (file refs : List ℕ) (v : Store) (c : Counts) (m : ℕ) (expr : List ℕ) (r : Expanded) (before after : List ℕ) : Type 0 where
   pub reply : (fs : List Field) (s : State) (rs : List Row) (p : Phase) (words : List ℕ)
-      → Standing file fs s rs (store names facts contexts orders heads) c p refs words declared → (t : Expr) (e : ℕ) → exprAt maxNesting expr 0 ≡ found t e
-      → LooksBelow (maxDefinitions + length (declarationsOf fs)) (byContext names facts (contextCodes contexts heads m)) t → (n : ℕ) → n ≤ maxArity
-      → WellFormed (aritiesOf (templatesOf s)) n 0 (termIn (byContext names facts (contextCodes contexts heads m)) (declarationsOf fs) (placeOf 0 0 itselves) t)
-      → Reports (unlessLonger (expansionBytesOf s (termIn (byContext names facts (contextCodes contexts heads m)) (declarationsOf fs) (placeOf 0 0 itselves) t)) (length before))
+      → Standing file fs s rs v c p refs words → (t : Expr) (e : ℕ) → exprAt maxNesting expr 0 ≡ found t e
+      → LooksBelow (maxDefinitions + length (declarationsOf fs)) (byContext (v .names) (v .facts) (codesOf v m)) t → (n : ℕ) → n ≤ maxArity
+      → WellFormed (aritiesOf (templatesOf s)) n 0 (termIn (byContext (v .names) (v .facts) (codesOf v m)) (declarationsOf fs) (placeOf 0 0 itselves) t)
+      → Reports (unlessLonger (expansionBytesOf s (termIn (byContext (v .names) (v .facts) (codesOf v m)) (declarationsOf fs) (placeOf 0 0 itselves) t)) (length before))
       r before after
 
 -- The reply in module m is the rules', if the arrays show a state in which it is ended.
-pub record RepliesIn (file refs names facts contexts orders heads declared : List ℕ) (c : Counts) (m n : ℕ) (expr : List ℕ) (r : Expanded) (before after : List ℕ) : Type 0 where
+pub record RepliesIn (file refs : List ℕ) (v : Store) (c : Counts) (m n : ℕ) (expr : List ℕ) (r : Expanded) (before after : List ℕ) : Type 0 where
   pub reply : (fs : List Field) (s : State) (rs : List Row) (p : Phase) (words : List ℕ)
-      → Standing file fs s rs (store names facts contexts orders heads) c p refs words declared → m < c .modules
+      → Standing file fs s rs v c p refs words → m < c .modules
       → Reports (andThen (readIn s (moduleNo s m) [] n (expression .read expr)) (λ t. unlessLonger (expansionBytesOf s t) (length before))) r before after
 
 -- The same of an expression that was read, its string in a, where the shapes are those of the definitions.
-pub record ReadReplies (file refs names facts contexts orders heads declared : List ℕ) (c : Counts) (expr : List ℕ) (q : Queried) (shapes a : List ℕ) (r : Expanded) (before after : List ℕ) : Type 0 where
+pub record ReadReplies (file refs : List ℕ) (v : Store) (c : Counts) (expr : List ℕ) (q : Queried) (shapes a : List ℕ) (r : Expanded) (before after : List ℕ) : Type 0 where
   pub reply : (m n : ℕ) → length file ≤ fileBytes → n ≤ maxArity
-      → DefinitionsShaped file refs (store names facts contexts orders heads) declared (c .declarations) (c .definitions) shapes
-      → QueryRead expr names facts (contextCodes contexts heads m) declared shapes n a workBytes q
-      → RepliesIn file refs names facts contexts orders heads declared c m n expr r before after
+      → DefinitionsShaped file refs v (v .declared) (c .declarations) (c .definitions) shapes
+      → QueryRead expr (v .names) (v .facts) (codesOf v m) (v .declared) shapes n a workBytes q
+      → RepliesIn file refs v c m n expr r before after
 
 -- The reply is the rules', if the arrays and counts show a state that some fields lead to.
-pub record RepliesOf (file refs names facts contexts orders heads declared : List ℕ) (c : Counts) (m n : ℕ) (expr : List ℕ) (r : Expanded) (before after : List ℕ) : Type 0 where
+pub record RepliesOf (file refs : List ℕ) (v : Store) (c : Counts) (m n : ℕ) (expr : List ℕ) (r : Expanded) (before after : List ℕ) : Type 0 where
   pub reply : (fs : List Field) (s : State) (rs : List Row) (p : Phase) (words : List ℕ)
-      → Standing file fs s rs (store names facts contexts orders heads) c p refs words declared
+      → Standing file fs s rs v c p refs words
       → Reports (expansionReply m n expr (length before) s) r before after

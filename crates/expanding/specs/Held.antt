@@ -12,7 +12,7 @@ use Rattle.theory.specs.Expand.{aritiesOf}
 use Rattle.theory.specs.Term.{Term, WellFormed, eval, withDefined}
 use Rattle.rules.specs.Query.{expansionBytesOf, unlessLonger}
 use Rattle.rules.specs.State.{State, templatesOf}
-use Rattle.context.specs.Store.{Store}
+use Rattle.store.specs.Store.{Store}
 use Rattle.strings.specs.Read.{highestCall}
 use Rattle.strings.specs.declared.Filled.{Filled}
 use Rattle.unfolding.specs.CalleeTerm.{senseOf}

@@ -4,14 +4,16 @@ ghost use mathlib.Core.Path.{_≡_};
 ghost use Prim.Native.Nat.{_≤_, _<_, min};
 ghost use lib.ListN.{length};
 ghost use Rattle.limits.specs.Limits.{maxDefinitions};
-ghost use Rattle.context.specs.Store.{store};
 ghost use Rattle.strings.specs.Read.{stringAt, symbolOf};
 ghost use Rattle.symbols.proofs.Sizes.{byTwo};
 ghost use Rattle.symbols.specs.Weight.{symbolWeight, weight};
 ghost use Rattle.templates.specs.Taking.{workBytes};
 ghost use Rattle.expanding.specs.Held.{CallsReplaced, Expands};
+ghost use Rattle.store.specs.Store.{held};
 use limits::Limits;
 use replacing::rewrite;
+use store::Lent;
+use store::Store;
 use strings::Filled;
 use strings::Sign;
 use strings::highest_call;
@@ -59,13 +61,8 @@ fn string_weight(s: &[u8], n: usize) -> usize
 // The calls of definition d replaced, unless the expansion is known to be too long.
 fn replace_calls(
     file: &[u8],
-    refs: &[u16],
-    names: &[u16],
-    facts: &[u16],
-    contexts: &[u16],
-    orders: &[u16],
-    heads: &[u16],
-    declared: &[u16],
+    refs: &[u16; Lent::REFS],
+    store: &[u16; Store::LENGTH],
     n: usize,
     shapes: &[u32],
     d: usize,
@@ -75,7 +72,7 @@ fn replace_calls(
     filled: &mut [u8],
 ) -> Filled
     requires { ⌜ (d < maxDefinitions) × (length (now shapes) ≡ maxDefinitions) × (length (now a) ≡ workBytes) × (len ≤ length (now a)) × (length (now work) ≡ workBytes) × (length (now filled) ≡ workBytes) ⌝ }
-    ensures { λ r. ⌜ CallsReplaced (now (file .entry)) (now (refs .entry)) (store (now (names .entry)) (now (facts .entry)) (now (contexts .entry)) (now (orders .entry)) (now (heads .entry))) (now (declared .entry)) n (now (shapes .entry)) d (now (a .entry)) len (now (a .exit)) r ⌝ }
+    ensures { λ r. ⌜ CallsReplaced (now (file .entry)) (now (refs .entry)) (held (now (store .entry))) (held (now (store .entry)) .declared) n (now (shapes .entry)) d (now (a .entry)) len (now (a .exit)) r ⌝ }
 {
     // Each pass costs a string's length: one that is too long already is not passed over again.
     if Limits::EXPANSION_BYTES < string_weight(a, len) {
@@ -84,21 +81,7 @@ fn replace_calls(
             len: 0,
         };
     }
-    let made = template(
-        file,
-        refs,
-        names,
-        facts,
-        contexts,
-        orders,
-        heads,
-        declared,
-        n,
-        shapes,
-        d,
-        work,
-        filled,
-    );
+    let made = template(file, refs, store, n, shapes, d, work, filled);
     if made.fits {
         return rewrite(a, len, d as u16, work, made.len, shapes, filled);
     }
@@ -111,13 +94,8 @@ fn replace_calls(
 // The string of a term, its calls replaced until none is left.
 pub fn expansion(
     file: &[u8],
-    refs: &[u16],
-    names: &[u16],
-    facts: &[u16],
-    contexts: &[u16],
-    orders: &[u16],
-    heads: &[u16],
-    declared: &[u16],
+    refs: &[u16; Lent::REFS],
+    store: &[u16; Store::LENGTH],
     n: usize,
     shapes: &[u32],
     a: &mut [u8],
@@ -126,28 +104,12 @@ pub fn expansion(
     filled: &mut [u8],
 ) -> Filled
     requires { ⌜ (length (now shapes) ≡ maxDefinitions) × (length (now a) ≡ workBytes) × (len ≤ length (now a)) × (length (now work) ≡ workBytes) × (length (now filled) ≡ workBytes) ⌝ }
-    ensures { λ r. ⌜ Expands (now (file .entry)) (now (refs .entry)) (store (now (names .entry)) (now (facts .entry)) (now (contexts .entry)) (now (orders .entry)) (now (heads .entry))) (now (declared .entry)) n (now (shapes .entry)) (now (a .entry)) len (now (a .exit)) r ⌝ }
+    ensures { λ r. ⌜ Expands (now (file .entry)) (now (refs .entry)) (held (now (store .entry))) (held (now (store .entry)) .declared) n (now (shapes .entry)) (now (a .entry)) len (now (a .exit)) r ⌝ }
 {
     let mut size = len;
     let mut k = highest_call(a, size);
     while 0 < k {
-        let r = replace_calls(
-            file,
-            refs,
-            names,
-            facts,
-            contexts,
-            orders,
-            heads,
-            declared,
-            n,
-            shapes,
-            k - 1,
-            a,
-            size,
-            work,
-            filled,
-        );
+        let r = replace_calls(file, refs, store, n, shapes, k - 1, a, size, work, filled);
         if r.fits {
             size = r.len;
             let c = highest_call(a, size);

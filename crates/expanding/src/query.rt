@@ -3,12 +3,11 @@ ghost use mathlib.Core.Path.{_≡_};
 ghost use Prim.Native.Nat.{_≤_};
 ghost use lib.ListN.{length};
 ghost use Rattle.limits.specs.Limits.{fileBytes, maxArity, maxDefinitions, maxModules};
-ghost use Rattle.context.specs.Store.{store};
 ghost use Rattle.templates.specs.Shaped.{DefinitionsShaped};
 ghost use Rattle.templates.specs.Taking.{workBytes};
-ghost use Rattle.tables.specs.Names.{Zeroed};
 ghost use Rattle.expanding.specs.Asks.{ReadReplies, RepliesIn, RepliesOf, readCause};
 ghost use Rattle.expanding.specs.Held.{StringReplies};
+ghost use Rattle.store.specs.Store.{held};
 use crate::Expanded;
 use crate::output::put_out;
 use crate::passes::expansion;
@@ -18,9 +17,11 @@ use context::lookup::find_module;
 use limits::Limits;
 use query_strings::Queried;
 use query_strings::query_string;
+use store::Lent;
+use store::Store;
 use templates::shaping::shape_definitions;
 
-// A string longer than this belongs to an expansion longer than 65,535 bytes; the tables that an expression is read with are as long.
+// A string longer than this belongs to an expansion longer than 65,535 bytes.
 const WORK_BYTES: usize = 131072;
 
 // Causes 3, 5, 9 and 10 of an expression, by what was read of it.
@@ -45,13 +46,8 @@ fn read_cause(expr: &[u8], q: Queried) -> u8
 // The reply to the term whose string stands in a.
 fn expand_string(
     file: &[u8],
-    refs: &[u16],
-    names: &[u16],
-    facts: &[u16],
-    contexts: &[u16],
-    orders: &[u16],
-    heads: &[u16],
-    declared: &[u16],
+    refs: &[u16; Lent::REFS],
+    store: &[u16; Store::LENGTH],
     n: usize,
     shapes: &[u32],
     a: &mut [u8],
@@ -61,24 +57,9 @@ fn expand_string(
     out: &mut [u8],
 ) -> Expanded
     requires { ⌜ (length (now shapes) ≡ maxDefinitions) × (len ≤ length (now a)) × (length (now a) ≡ workBytes) × (length (now work) ≡ workBytes) × (length (now filled) ≡ workBytes) ⌝ }
-    ensures { λ r. ⌜ StringReplies (now (file .entry)) (now (refs .entry)) (store (now (names .entry)) (now (facts .entry)) (now (contexts .entry)) (now (orders .entry)) (now (heads .entry))) (now (declared .entry)) n (now (shapes .entry)) (now (a .entry)) len r (now (out .entry)) (now (out .exit)) ⌝ }
+    ensures { λ r. ⌜ StringReplies (now (file .entry)) (now (refs .entry)) (held (now (store .entry))) (held (now (store .entry)) .declared) n (now (shapes .entry)) (now (a .entry)) len r (now (out .entry)) (now (out .exit)) ⌝ }
 {
-    let r = expansion(
-        file,
-        refs,
-        names,
-        facts,
-        contexts,
-        orders,
-        heads,
-        declared,
-        n,
-        shapes,
-        a,
-        len,
-        work,
-        filled,
-    );
+    let r = expansion(file, refs, store, n, shapes, a, len, work, filled);
     if r.fits {
         return put_out(a, r.len, out);
     }
@@ -90,13 +71,8 @@ fn expand_read(
     expr: &[u8],
     q: Queried,
     file: &[u8],
-    refs: &[u16],
-    names: &[u16],
-    facts: &[u16],
-    contexts: &[u16],
-    orders: &[u16],
-    heads: &[u16],
-    declared: &[u16],
+    refs: &[u16; Lent::REFS],
+    store: &[u16; Store::LENGTH],
     c: Counts,
     shapes: &[u32],
     a: &mut [u8],
@@ -105,7 +81,7 @@ fn expand_read(
     out: &mut [u8],
 ) -> Expanded
     requires { ⌜ (length (now shapes) ≡ maxDefinitions) × (length (now a) ≡ workBytes) × (length (now work) ≡ workBytes) × (length (now filled) ≡ workBytes) ⌝ }
-    ensures { λ r. ⌜ ReadReplies (now (file .entry)) (now (refs .entry)) (now (names .entry)) (now (facts .entry)) (now (contexts .entry)) (now (orders .entry)) (now (heads .entry)) (now (declared .entry)) c (now (expr .entry)) q (now (shapes .entry)) (now (a .entry)) r (now (out .entry)) (now (out .exit)) ⌝ }
+    ensures { λ r. ⌜ ReadReplies (now (file .entry)) (now (refs .entry)) (held (now (store .entry))) c (now (expr .entry)) q (now (shapes .entry)) (now (a .entry)) r (now (out .entry)) (now (out .exit)) ⌝ }
 {
     let cause = read_cause(expr, q);
     if cause != 0 {
@@ -117,12 +93,7 @@ fn expand_read(
             return expand_string(
                 file,
                 refs,
-                names,
-                facts,
-                contexts,
-                orders,
-                heads,
-                declared,
+                store,
                 c.declarations,
                 shapes,
                 a,
@@ -136,19 +107,13 @@ fn expand_read(
     Expanded::Refused(18, 0)
 }
 
-// The reply in module m, the shapes of the definitions being known. The tables that the expression is read with are made in the memory of
-// strings.
+// The reply in module m, the shapes of the definitions being known.
 fn expand_shaped(
     expr: &[u8],
     params: usize,
     file: &[u8],
-    refs: &[u16],
-    names: &[u16],
-    facts: &[u16],
-    contexts: &[u16],
-    orders: &[u16],
-    heads: &[u16],
-    declared: &[u16],
+    refs: &[u16; Lent::REFS],
+    store: &[u16; Store::LENGTH],
     c: Counts,
     m: usize,
     shapes: &[u32],
@@ -157,41 +122,11 @@ fn expand_shaped(
     filled: &mut [u8],
     out: &mut [u8],
 ) -> Expanded
-    requires { ⌜ (m ≤ maxModules) × (length (now file) ≤ fileBytes) × (params ≤ maxArity) × DefinitionsShaped (now file) (now refs) (store (now names) (now facts) (now contexts) (now orders) (now heads)) (now declared) (c .declarations) (c .definitions) (now shapes) × (length (now a) ≡ workBytes) × (length (now work) ≡ workBytes) × Zeroed (now work) × (length (now filled) ≡ workBytes) ⌝ }
-    ensures { λ r. ⌜ RepliesIn (now (file .entry)) (now (refs .entry)) (now (names .entry)) (now (facts .entry)) (now (contexts .entry)) (now (orders .entry)) (now (heads .entry)) (now (declared .entry)) c m params (now (expr .entry)) r (now (out .entry)) (now (out .exit)) ⌝ }
+    requires { ⌜ (m ≤ maxModules) × (length (now file) ≤ fileBytes) × (params ≤ maxArity) × DefinitionsShaped (now file) (now refs) (held (now store)) (held (now store) .declared) (c .declarations) (c .definitions) (now shapes) × (length (now a) ≡ workBytes) × (length (now work) ≡ workBytes) × (length (now filled) ≡ workBytes) ⌝ }
+    ensures { λ r. ⌜ RepliesIn (now (file .entry)) (now (refs .entry)) (held (now (store .entry))) c m params (now (expr .entry)) r (now (out .entry)) (now (out .exit)) ⌝ }
 {
-    let q = query_string(
-        expr,
-        names,
-        facts,
-        contexts,
-        heads,
-        declared,
-        shapes,
-        m,
-        params,
-        work,
-        filled,
-        a,
-    );
-    expand_read(
-        expr,
-        q,
-        file,
-        refs,
-        names,
-        facts,
-        contexts,
-        orders,
-        heads,
-        declared,
-        c,
-        shapes,
-        a,
-        work,
-        filled,
-        out,
-    )
+    let q = query_string(expr, store, shapes, m, params, a);
+    expand_read(expr, q, file, refs, store, c, shapes, a, work, filled, out)
 }
 
 // The reply in module m, with memory to work in.
@@ -199,13 +134,8 @@ fn expand_with(
     expr: &[u8],
     params: usize,
     file: &[u8],
-    refs: &[u16],
-    names: &[u16],
-    facts: &[u16],
-    contexts: &[u16],
-    orders: &[u16],
-    heads: &[u16],
-    declared: &[u16],
+    refs: &[u16; Lent::REFS],
+    store: &[u16; Store::LENGTH],
     c: Counts,
     m: usize,
     shapes: &mut [u32],
@@ -214,36 +144,19 @@ fn expand_with(
     filled: &mut [u8],
     out: &mut [u8],
 ) -> Expanded
-    requires { ⌜ (m ≤ maxModules) × (length (now file) ≤ fileBytes) × (c .definitions ≤ maxDefinitions) × (length (now shapes) ≡ maxDefinitions) × (length (now a) ≡ workBytes) × (length (now work) ≡ workBytes) × Zeroed (now work) × (length (now filled) ≡ workBytes) ⌝ }
-    ensures { λ r. ⌜ RepliesIn (now (file .entry)) (now (refs .entry)) (now (names .entry)) (now (facts .entry)) (now (contexts .entry)) (now (orders .entry)) (now (heads .entry)) (now (declared .entry)) c m params (now (expr .entry)) r (now (out .entry)) (now (out .exit)) ⌝ }
+    requires { ⌜ (m ≤ maxModules) × (length (now file) ≤ fileBytes) × (c .definitions ≤ maxDefinitions) × (length (now shapes) ≡ maxDefinitions) × (length (now a) ≡ workBytes) × (length (now work) ≡ workBytes) × (length (now filled) ≡ workBytes) ⌝ }
+    ensures { λ r. ⌜ RepliesIn (now (file .entry)) (now (refs .entry)) (held (now (store .entry))) c m params (now (expr .entry)) r (now (out .entry)) (now (out .exit)) ⌝ }
 {
     if Limits::ARITY < params {
         return Expanded::Refused(limit_cause(expr), c.fields);
     }
-    shape_definitions(
-        file,
-        refs,
-        names,
-        facts,
-        contexts,
-        orders,
-        heads,
-        declared,
-        c.declarations,
-        c.definitions,
-        shapes,
-    );
+    shape_definitions(file, refs, store, c.declarations, c.definitions, shapes);
     expand_shaped(
         expr,
         params,
         file,
         refs,
-        names,
-        facts,
-        contexts,
-        orders,
-        heads,
-        declared,
+        store,
         c,
         m,
         shapes,
@@ -259,19 +172,14 @@ fn expand_in(
     expr: &[u8],
     params: usize,
     file: &[u8],
-    refs: &[u16],
-    names: &[u16],
-    facts: &[u16],
-    contexts: &[u16],
-    orders: &[u16],
-    heads: &[u16],
-    declared: &[u16],
+    refs: &[u16; Lent::REFS],
+    store: &[u16; Store::LENGTH],
     c: Counts,
     m: usize,
     out: &mut [u8],
 ) -> Expanded
     requires { ⌜ (m ≤ maxModules) × (length (now file) ≤ fileBytes) × (c .definitions ≤ maxDefinitions) ⌝ }
-    ensures { λ r. ⌜ RepliesIn (now (file .entry)) (now (refs .entry)) (now (names .entry)) (now (facts .entry)) (now (contexts .entry)) (now (orders .entry)) (now (heads .entry)) (now (declared .entry)) c m params (now (expr .entry)) r (now (out .entry)) (now (out .exit)) ⌝ }
+    ensures { λ r. ⌜ RepliesIn (now (file .entry)) (now (refs .entry)) (held (now (store .entry))) c m params (now (expr .entry)) r (now (out .entry)) (now (out .exit)) ⌝ }
 {
     let mut shapes = [0u32; Limits::DEFINITIONS];
     let mut a = [0u8; WORK_BYTES];
@@ -282,12 +190,7 @@ fn expand_in(
         params,
         file,
         refs,
-        names,
-        facts,
-        contexts,
-        orders,
-        heads,
-        declared,
+        store,
         c,
         m,
         &mut shapes,
@@ -305,36 +208,17 @@ pub fn expand_reply(
     params: u8,
     module: u16,
     file: &[u8],
-    refs: &[u16],
-    names: &[u16],
-    facts: &[u16],
-    contexts: &[u16],
-    orders: &[u16],
-    heads: &[u16],
-    declared: &[u16],
+    refs: &[u16; Lent::REFS],
+    store: &[u16; Store::LENGTH],
     c: Counts,
     out: &mut [u8],
 ) -> Expanded
     requires { ⌜ (c .modules ≤ maxModules) × (length (now file) ≤ fileBytes) × (c .definitions ≤ maxDefinitions) ⌝ }
-    ensures { λ r. ⌜ RepliesOf (now (file .entry)) (now (refs .entry)) (now (names .entry)) (now (facts .entry)) (now (contexts .entry)) (now (orders .entry)) (now (heads .entry)) (now (declared .entry)) c «module» params (now (expr .entry)) r (now (out .entry)) (now (out .exit)) ⌝ }
+    ensures { λ r. ⌜ RepliesOf (now (file .entry)) (now (refs .entry)) (held (now (store .entry))) c «module» params (now (expr .entry)) r (now (out .entry)) (now (out .exit)) ⌝ }
 {
-    let q = find_module(heads, c.modules, module);
+    let q = find_module(store, c.modules, module);
     if c.modules <= q {
         return Expanded::Refused(17, 0);
     }
-    expand_in(
-        expr,
-        params as usize,
-        file,
-        refs,
-        names,
-        facts,
-        contexts,
-        orders,
-        heads,
-        declared,
-        c,
-        q,
-        out,
-    )
+    expand_in(expr, params as usize, file, refs, store, c, q, out)
 }

@@ -10,11 +10,11 @@ use Rattle.tokens.specs.Token.{numberAt}
 use Rattle.fields.specs.Payload.{partsOf}
 use Rattle.fields.specs.Cursor.{placeOf, stays, goes, stepAt}
 use Rattle.fields.specs.declared.Cursor.{Cursor}
-use Rattle.fields.specs.declared.Step.{Step}
+use Rattle.fields.specs.declared.FieldStep.{FieldStep}
 use Rattle.fields.specs.declared.Parts.{Parts}
 use Rattle.fields.specs.declared.Parts.the-variants.{Cut, EndOfFile}
 
-module _ (s : List ℕ) (c : Cursor) (r : Step) where
+module _ (s : List ℕ) (c : Cursor) (r : FieldStep) where
   pub step-end : length s ≤ c .number → r ≡ stays c EndOfFile → r ≡ stepAt s c
   unfolding stepAt
   step-end l q = rw (le-leb (length s) (placeOf c) (omega arith)) q

@@ -8,7 +8,7 @@ use Rattle.tokens.specs.Token.{numberAt}
 use Rattle.fields.specs.Substitution.{part}
 use Rattle.fields.specs.Payload.{partsOf}
 use Rattle.fields.specs.declared.Cursor.{Cursor}
-use Rattle.fields.specs.declared.Step.{Step}
+use Rattle.fields.specs.declared.FieldStep.{FieldStep}
 use Rattle.fields.specs.declared.Parts.{Parts}
 use Rattle.fields.specs.declared.Parts.the-variants.{Module, Extends, Constant, Variable, Definition, Instance, EndModule, Assume, Theorem, Cut, EndOfFile}
 
@@ -17,14 +17,14 @@ abbrev pub placeOf : Cursor → ℕ
 placeOf c = c .number + c .offset
 
 -- the cursor stays; or goes past a tag, a length and a payload of n bytes
-abbrev pub stays : Cursor → Parts → Step
+abbrev pub stays : Cursor → Parts → FieldStep
 stays c x = record { parts = x; number = c .number; next = c }
 
-abbrev pub goes : Cursor → ℕ → Parts → Step
+abbrev pub goes : Cursor → ℕ → Parts → FieldStep
 goes c n x = record { parts = x; number = c .number; next = record { number = c .number + 1; offset = c .offset + 2 + n } }
 
 -- "A field is a one-byte tag, a two-byte length, and that many bytes."
-unfoldable pub stepAt : List ℕ → Cursor → Step
+unfoldable pub stepAt : List ℕ → Cursor → FieldStep
 stepAt s c =
     let at = placeOf c in
     cond (leb (length s) at) (stays c EndOfFile)

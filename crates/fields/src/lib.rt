@@ -39,7 +39,7 @@ pub enum Parts {
 }
 
 // What was read, the field's number, and the cursor to go on with. The cursor stays where the bytes of a field are not there.
-pub struct Step {
+pub struct FieldStep {
     pub parts: Parts,
     pub number: usize,
     pub next: Cursor,
@@ -57,7 +57,7 @@ impl Cursor {
     }
 
     // The field at the cursor.
-    pub fn read(self, s: &[u8]) -> Step
+    pub fn read(self, s: &[u8]) -> FieldStep
         ensures { λ r. ⌜ r ≡ stepAt (now (s .entry)) self ⌝ }
     {
         if s.len() <= self.number {
@@ -70,7 +70,7 @@ impl Cursor {
     }
 
     // The field at a cursor that is in the file.
-    fn read_there(self, s: &[u8]) -> Step
+    fn read_there(self, s: &[u8]) -> FieldStep
         requires { ⌜ self .number + self .offset < length (now s) ⌝ }
         ensures { λ r. ⌜ r ≡ stepAt (now (s .entry)) self ⌝ }
     {
@@ -88,10 +88,10 @@ impl Cursor {
     }
 
     // The cursor stays.
-    fn stay(self, parts: Parts) -> Step
+    fn stay(self, parts: Parts) -> FieldStep
         ensures { λ r. ⌜ r ≡ stays self parts ⌝ }
     {
-        Step {
+        FieldStep {
             parts: parts,
             number: self.number,
             next: self,
@@ -99,7 +99,7 @@ impl Cursor {
     }
 
     // The cursor goes past a field with a payload of n bytes.
-    fn go(self, parts: Parts, n: usize) -> Step
+    fn go(self, parts: Parts, n: usize) -> FieldStep
         requires { ⌜ (self .number < 2 ^ 63) × (self .offset < 2 ^ 63) × (n < 2 ^ 62) ⌝ }
         ensures { λ r. ⌜ r ≡ goes self n parts ⌝ }
     {
@@ -107,7 +107,7 @@ impl Cursor {
             number: self.number + 1,
             offset: self.offset + 2 + n,
         };
-        Step {
+        FieldStep {
             parts: parts,
             number: self.number,
             next: next,

@@ -22,7 +22,8 @@ use Rattle.agree.specs.Parts.{SubstitutionsAt}
 use Rattle.texts.specs.Text.{Declarations, noDeclaration, refHead}
 use Rattle.context.specs.Holds.{Holds}
 use Rattle.context.specs.Lookup.{isDeclared}
-use Rattle.context.specs.Store.{Store, codesOf, kindAt, variableKind}
+use Rattle.context.specs.Entries.{codesOf, variableKind}
+use Rattle.store.specs.Store.{Store, kindAt}
 use Rattle.context.specs.declared.Counts.{Counts}
 use Rattle.context.proofs.Judging.{any-declared-law, any-each, kindOf}
 use Rattle.context.proofs.Lookups.{current-no}

@@ -1,3 +1,4 @@
+pub mod InOrder
 pub mod Modules
 pub mod Starts
 pub mod Turns

@@ -9,11 +9,11 @@ use lib.ListN.{length}
 use Rattle.limits.specs.Limits.{maxNesting}
 use Rattle.tokens.specs.Expr.{exprAt}
 use Rattle.tokens.specs.Token.{numberAt}
-use Rattle.context.specs.Store.{contextCodes}
+use Rattle.context.specs.Entries.{contextCodes}
 use Rattle.resolve.specs.Walk.{Looks}
 use Rattle.judge_plain.specs.Causes.{early}
 use Rattle.judge_plain.specs.declared.Phase.{Phase}
-use Rattle.instance_names.specs.Causes.{NameCauses, firstCauses, nameCauses}
+use Rattle.instance_names.specs.Causes.{NameCauses, firstCauses, firstNumber, nameCauses}
 use Rattle.instance_names.specs.Looking.{LooksEach, LooksOne}
 use Rattle.instance_names.specs.Sites.{miscountedAmong, unknownAmong, arityThere, clashesAt, nextStart, overLimits, repeatedFrom, starts, undeclaredIn}
 use Rattle.instance_names.specs.declared.Site.{Site}
@@ -77,62 +77,62 @@ module _ (file names facts contexts heads : List ℕ) (x : Site) where
 
 -- 4, 5, 7, 8
 module _ (file names facts contexts orders heads : List ℕ) (phase : Phase) (definitions : ℕ) (x : Site) (n : ℕ) (a : Bool) (first : a ≡ early phase 6) where
-  pub cause-4 : a ≡ true → 4 ≡ firstCauses file names facts contexts orders heads phase definitions x n
+  pub cause-4 : a ≡ true → 4 ≡ firstNumber (firstCauses file names facts contexts orders heads phase definitions x n)
   unfolding firstCauses
   cause-4 h = rw (← first, h)
 
   module _ (in-order : a ≡ false) (b : Bool) (second : b ≡ overLimits file names facts contexts orders heads x definitions) where
-    pub cause-5 : b ≡ true → 5 ≡ firstCauses file names facts contexts orders heads phase definitions x n
+    pub cause-5 : b ≡ true → 5 ≡ firstNumber (firstCauses file names facts contexts orders heads phase definitions x n)
     unfolding firstCauses
     cause-5 h = rw (← first, in-order, ← second, h)
 
-    pub cause-7 : b ≡ false → x .modules ≤ x .source → 7 ≡ firstCauses file names facts contexts orders heads phase definitions x n
+    pub cause-7 : b ≡ false → x .modules ≤ x .source → 7 ≡ firstNumber (firstCauses file names facts contexts orders heads phase definitions x n)
     unfolding firstCauses
     cause-7 h l = rw (← first, in-order, ← second, h, le-leb (x .modules) (x .source) l)
 
     module _ (kept : b ≡ false) (ended : x .source < x .modules) (d : Bool) (third : d ≡ clashesAt names contexts heads x n) where
-      pub cause-8 : d ≡ true → 8 ≡ firstCauses file names facts contexts orders heads phase definitions x n
+      pub cause-8 : d ≡ true → 8 ≡ firstNumber (firstCauses file names facts contexts orders heads phase definitions x n)
       unfolding firstCauses
       cause-8 h = rw (← first, in-order, ← second, kept, lt-leb (x .modules) (x .source) ended, ← third, h)
 
-      pub cause-none : d ≡ false → 0 ≡ firstCauses file names facts contexts orders heads phase definitions x n
+      pub cause-none : d ≡ false → 0 ≡ firstNumber (firstCauses file names facts contexts orders heads phase definitions x n)
       unfolding firstCauses
       cause-none h = rw (← first, in-order, ← second, kept, lt-leb (x .modules) (x .source) ended, ← third, h)
 
+-- a test of two
+pub or-first : (a b : Bool) → a ≡ true → true ≡ (a || b)
+or-first a b h = rw h refl
+
+pub or-second : (a b r : Bool) → a ≡ false → r ≡ b → r ≡ (a || b)
+or-second a b r h e = rw (h, e) refl
+
+pub either-first : (a b d : Bool) → d ≡ a → d ≡ true → true ≡ (a || b)
+either-first a b d e h = rw (← e, h) refl
+
+pub either-second : (a b d r : Bool) → d ≡ a → d ≡ false → r ≡ b → r ≡ (a || b)
+either-second a b d r e h f = rw (← e, h, f) refl
+
 -- 9, 10, 11
 module _ (file names facts contexts heads : List ℕ) (x : Site) (refs refs′ : List ℕ) (u w : Bool)
-    (looks : LooksEach file names facts contexts heads x (starts (x .count) file (x .at)) refs refs′ u w) where
-  caused : (r : ℕ) → r ≡ nameCauses file names facts contexts heads x u w → NameCauses file names facts contexts heads x refs refs′ r
+    (looks : LooksEach file names facts contexts heads x (starts (x .count) file (x .at)) refs refs′ u w) (a : Bool)
+    (first : a ≡ (u || unknownAmong file names facts contexts heads x (contextCodes contexts heads (x .source)))) where
+  caused : (r : ℕ) → r ≡ firstNumber (nameCauses file names facts contexts heads x u w) → NameCauses file names facts contexts heads x refs refs′ r
   caused r e = record { u = u; w = w; looks = looks; cause = e }
 
-  pub names-9 : u ≡ true → NameCauses file names facts contexts heads x refs refs′ 9
+  pub names-9 : a ≡ true → NameCauses file names facts contexts heads x refs refs′ 9
   unfolding nameCauses
-  names-9 h = caused 9 (rw h)
+  names-9 h = caused 9 (rw (← first, h))
 
-  module _ (known : u ≡ false) (a : Bool) (first : a ≡ unknownAmong file names facts contexts heads x (contextCodes contexts heads (x .source))) where
-    pub implied-9 : a ≡ true → NameCauses file names facts contexts heads x refs refs′ 9
+  module _ (known : a ≡ false) (b : Bool) (second : b ≡ (w || miscountedAmong file names facts contexts heads x (contextCodes contexts heads (x .source)))) where
+    pub names-10 : b ≡ true → NameCauses file names facts contexts heads x refs refs′ 10
     unfolding nameCauses
-    implied-9 h = caused 9 (rw (known, ← first, h))
+    names-10 h = caused 10 (rw (← first, known, ← second, h))
 
-    pub names-10 : a ≡ false → w ≡ true → NameCauses file names facts contexts heads x refs refs′ 10
-    unfolding nameCauses
-    names-10 h q = caused 10 (rw (known, ← first, h, q))
-
-    module _ (all-known : a ≡ false) (counted : w ≡ false) (b : Bool) (second : b ≡ miscountedAmong file names facts contexts heads x (contextCodes contexts heads (x .source))) where
-      pub implied-10 : b ≡ true → NameCauses file names facts contexts heads x refs refs′ 10
+    module _ (counted : b ≡ false) (d : Bool) (third : d ≡ (undeclaredIn file names facts contexts heads x (x .count) (x .at) || repeatedFrom file (x .count) (x .at))) where
+      pub names-11 : d ≡ true → NameCauses file names facts contexts heads x refs refs′ 11
       unfolding nameCauses
-      implied-10 h = caused 10 (rw (known, ← first, all-known, counted, ← second, h))
+      names-11 h = caused 11 (rw (← first, known, ← second, counted, ← third, h))
 
-      module _ (all-counted : b ≡ false) (d : Bool) (third : d ≡ undeclaredIn file names facts contexts heads x (x .count) (x .at)) where
-        pub names-11 : d ≡ true → NameCauses file names facts contexts heads x refs refs′ 11
-        unfolding nameCauses
-        names-11 h = caused 11 (rw (known, ← first, all-known, counted, ← second, all-counted, ← third, h))
-
-        module _ (declared : d ≡ false) (e : Bool) (fourth : e ≡ repeatedFrom file (x .count) (x .at)) where
-          pub twice-11 : e ≡ true → NameCauses file names facts contexts heads x refs refs′ 11
-          unfolding nameCauses
-          twice-11 h = caused 11 (rw (known, ← first, all-known, counted, ← second, all-counted, ← third, declared, ← fourth, h))
-
-          pub names-none : e ≡ false → NameCauses file names facts contexts heads x refs refs′ 0
-          unfolding nameCauses
-          names-none h = caused 0 (rw (known, ← first, all-known, counted, ← second, all-counted, ← third, declared, ← fourth, h))
+      pub names-none : d ≡ false → NameCauses file names facts contexts heads x refs refs′ 0
+      unfolding nameCauses
+      names-none h = caused 0 (rw (← first, known, ← second, counted, ← third, h))

@@ -14,7 +14,8 @@ use Rattle.rules.specs.Judge.{instanceClashes, notEnded}
 use Rattle.rules.specs.State.{Module, State, moduleNamed, noModule}
 use Rattle.context.specs.Holds.{Holds, moduleNo}
 use Rattle.context.specs.Lookup.{asCode, declaredNamed, operatorIn}
-use Rattle.context.specs.Store.{Store, codesOf}
+use Rattle.context.specs.Entries.{codesOf}
+use Rattle.store.specs.Store.{Store}
 use Rattle.context.specs.declared.Counts.{Counts}
 use Rattle.context.specs.declared.Operator.{Operator}
 use Rattle.context.specs.declared.Operator.the-variants.{Constant, Variable, Defined, Unknown}

@@ -27,7 +27,8 @@ use Rattle.texts.specs.Text.{Declarations}
 use Rattle.texts.proofs.Noting.{AgreeFrom, shown-same}
 use Rattle.texts.proofs.Spans.{Span, SpanOf, span-found}
 use Rattle.context.specs.Holds.{Holds}
-use Rattle.context.specs.Store.{Store, codesOf}
+use Rattle.context.specs.Entries.{codesOf}
+use Rattle.store.specs.Store.{Store}
 use Rattle.context.specs.declared.Counts.{Counts}
 use Rattle.resolve.specs.Walk.{Looks}
 use Rattle.resolve.proofs.Law.{Right}

@@ -23,7 +23,8 @@ use Rattle.tokens.proofs.Nesting.{limited}
 use Rattle.agree.specs.Parts.{SubstitutionsAt}
 use Rattle.agree.proofs.Limits.{limits-agree}
 use Rattle.context.specs.Holds.{Holds, moduleNo}
-use Rattle.context.specs.Store.{Store, orderOf, orderSlot}
+use Rattle.context.specs.Entries.{orderOf}
+use Rattle.store.specs.Store.{Store, orderSlot}
 use Rattle.context.specs.declared.Counts.{Counts}
 use Rattle.context.proofs.Room.{count-law, order-law, params-law}
 use Rattle.judge_plain.proofs.Premises.{good-listed}

@@ -16,7 +16,8 @@ use Rattle.tokens.specs.declared.Limit.{Limit}
 use Rattle.tokens.specs.declared.Token.the-variants.{Name}
 use Rattle.context.specs.Lookup.{asCode, codeNamed, declaredNamed, definitionAmong, isDeclared, operatorIn}
 use Rattle.context.specs.Parts.{part}
-use Rattle.context.specs.Store.{contextCodes, contextSlot, orderSlot, variableKind}
+use Rattle.context.specs.Entries.{contextCodes, variableKind}
+use Rattle.store.specs.Store.{contextSlot, orderSlot}
 use Rattle.context.specs.declared.Code.{Code}
 use Rattle.context.specs.declared.Code.the-variants.{At, Absent}
 use Rattle.context.specs.declared.Operator.{Operator}

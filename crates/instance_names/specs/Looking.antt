@@ -6,7 +6,7 @@ use Prim.Native.Nat.{ℕ, _+_}
 use Rattle.limits.specs.Limits.{maxNesting}
 use Rattle.tokens.specs.Expr.{exprAt}
 use Rattle.tokens.specs.Token.{numberAt}
-use Rattle.context.specs.Store.{contextCodes}
+use Rattle.context.specs.Entries.{contextCodes}
 use Rattle.resolve.specs.Walk.{Looks}
 use Rattle.instance_names.specs.Sites.{arityThere}
 use Rattle.instance_names.specs.declared.Site.{Site}

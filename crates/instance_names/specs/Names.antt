@@ -14,7 +14,7 @@ use Rattle.worlds.specs.Rows.{Row}
 use Rattle.texts.specs.Text.{Declarations}
 use Rattle.fields.specs.declared.Parts.the-variants.{Instance}
 use Rattle.context.specs.Parts.{part, placeOf}
-use Rattle.context.specs.Store.{Store}
+use Rattle.store.specs.Store.{Store}
 use Rattle.context.specs.declared.Counts.{Counts}
 use Rattle.resolve.proofs.Numbers.{declarationsOf}
 use Rattle.entering.specs.Written.{writtenAt}
@@ -41,6 +41,6 @@ pub record NamesRight (file : List ℕ) (fs : List Field) (s : State) (v : Store
       → Agrees file refs′ (declarationsOf fs) (s .bytes + length (writeField (instance n p m ss))) s (writtenAt k file at x) (substitutionFor ss x)
 
 -- whatever stands before the field
-pub record NamesJudged (file : List ℕ) (v : Store) (c : Counts) (phase : Phase) (words declared : List ℕ) (n p m k at r : ℕ) (refs refs′ : List ℕ) : Type 0 where
-  pub right : (fs : List Field) (s : State) (rs : List Row) (ss : List Substitution) → Standing file fs s rs v c phase refs words declared
+pub record NamesJudged (file : List ℕ) (v : Store) (c : Counts) (phase : Phase) (words : List ℕ) (n p m k at r : ℕ) (refs refs′ : List ℕ) : Type 0 where
+  pub right : (fs : List Field) (s : State) (rs : List Row) (ss : List Substitution) → Standing file fs s rs v c phase refs words
       → AtField file s (Instance n p m k at) (instance n p m ss) → NamesRight file fs s v c n p m k at ss r refs refs′

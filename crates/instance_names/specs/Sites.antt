@@ -13,7 +13,8 @@ use Rattle.tokens.specs.declared.Limit.the-variants.{Kept, Passed}
 use Rattle.tokens.specs.declared.Token.the-variants.{Name}
 use Rattle.fields.specs.Substitution.{nextSubstitution}
 use Rattle.context.specs.Lookup.{asCode, codeNamed, declaredNamed, definitionAmong, isDeclared, operatorIn}
-use Rattle.context.specs.Store.{contextCodes, kindAt, orderOf, orderSlot, variableKind}
+use Rattle.context.specs.Entries.{contextCodes, orderOf, variableKind}
+use Rattle.store.specs.Store.{kindAt, orderSlot}
 use Rattle.context.specs.declared.Operator.{Operator}
 use Rattle.context.specs.declared.Operator.the-variants.{Constant, Variable, Defined, Unknown}
 use Rattle.resolve.specs.Look.{lookIn}

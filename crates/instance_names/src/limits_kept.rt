@@ -5,13 +5,17 @@ ghost use Prim.Native.Nat.{_+_, _-_, _≤_, _<_, _^_};
 ghost use lib.ListN.{length};
 ghost use Rattle.limits.specs.Limits.{maxDefinitions, maxModules};
 ghost use Rattle.context.specs.Parts.{part};
-ghost use Rattle.context.specs.Store.{wordCount};
+ghost use Rattle.context.specs.Entries.{wordCount};
 ghost use Rattle.instance_names.specs.Sites.{answeredArity, arityThere, isPassed, nextStart, substitutionOver, substitutionsOver, definitionOver, definitionsOver, moduleOver, overLimits};
+ghost use Rattle.store.specs.Store.{held};
 use crate::Site;
 use context::Operator;
-use context::lists::number_at;
 use context::lookup::find_declared;
 use limits::Limits;
+use store::Store;
+use store::reading::fact_at;
+use store::reading::head_at;
+use store::reading::order_at;
 use tokens::Limit;
 use tokens::limit_at;
 
@@ -28,21 +32,14 @@ fn arity_answered(o: Operator) -> usize
 }
 
 // The argument count of a name as the module instanced declares it; 0 if it does not.
-pub fn arity_there(
-    names: &[u16],
-    facts: &[u16],
-    contexts: &[u16],
-    heads: &[u16],
-    x: Site,
-    name: u16,
-) -> usize
+pub fn arity_there(store: &[u16; Store::LENGTH], x: Site, name: u16) -> usize
     requires { ⌜ x .modules ≤ maxModules ⌝ }
-    ensures { λ r. ⌜ (r ≡ arityThere (now (names .entry)) (now (facts .entry)) (now (contexts .entry)) (now (heads .entry)) x name) × (r < wordCount) ⌝ }
+    ensures { λ r. ⌜ (r ≡ arityThere (held (now (store .entry)) .names) (held (now (store .entry)) .facts) (held (now (store .entry)) .contexts) (held (now (store .entry)) .heads) x name) × (r < wordCount) ⌝ }
 {
     if x.modules <= x.source {
         return 0;
     }
-    arity_answered(find_declared(names, facts, contexts, heads, x.source, name))
+    arity_answered(find_declared(store, x.source, name))
 }
 
 fn is_passed(l: Limit) -> bool
@@ -65,26 +62,11 @@ pub fn next_start(file: &[u8], at: usize) -> usize
 }
 
 // Of the substitution at a position.
-fn substitution_over(
-    file: &[u8],
-    names: &[u16],
-    facts: &[u16],
-    contexts: &[u16],
-    heads: &[u16],
-    x: Site,
-    at: usize,
-) -> bool
+fn substitution_over(file: &[u8], store: &[u16; Store::LENGTH], x: Site, at: usize) -> bool
     requires { ⌜ (x .modules ≤ maxModules) × (at < 2 ^ 63) ⌝ }
-    ensures { λ r. ⌜ r ≡ substitutionOver (now (file .entry)) (now (names .entry)) (now (facts .entry)) (now (contexts .entry)) (now (heads .entry)) x at ⌝ }
+    ensures { λ r. ⌜ r ≡ substitutionOver (now (file .entry)) (held (now (store .entry)) .names) (held (now (store .entry)) .facts) (held (now (store .entry)) .contexts) (held (now (store .entry)) .heads) x at ⌝ }
 {
-    let k = arity_there(
-        names,
-        facts,
-        contexts,
-        heads,
-        x,
-        tokens::number_at(file, at),
-    );
+    let k = arity_there(store, x, tokens::number_at(file, at));
     if Limits::ARITY < (x.params as usize) + k {
         return true;
     }
@@ -92,16 +74,9 @@ fn substitution_over(
 }
 
 // Of all substitutions.
-fn substitutions_over(
-    file: &[u8],
-    names: &[u16],
-    facts: &[u16],
-    contexts: &[u16],
-    heads: &[u16],
-    x: Site,
-) -> bool
+fn substitutions_over(file: &[u8], store: &[u16; Store::LENGTH], x: Site) -> bool
     requires { ⌜ x .modules ≤ maxModules ⌝ }
-    ensures { λ r. ⌜ r ≡ substitutionsOver (now (file .entry)) (now (names .entry)) (now (facts .entry)) (now (contexts .entry)) (now (heads .entry)) x (x .count) (x .at) ⌝ }
+    ensures { λ r. ⌜ r ≡ substitutionsOver (now (file .entry)) (held (now (store .entry)) .names) (held (now (store .entry)) .facts) (held (now (store .entry)) .contexts) (held (now (store .entry)) .heads) x (x .count) (x .at) ⌝ }
 {
     let mut at = x.at;
     let mut left = x.count as usize;
@@ -109,7 +84,7 @@ fn substitutions_over(
         if file.len() < at {
             return false;
         }
-        if substitution_over(file, names, facts, contexts, heads, x, at) {
+        if substitution_over(file, store, x, at) {
             return true;
         }
         at = next_start(file, at);
@@ -119,20 +94,20 @@ fn substitutions_over(
 }
 
 // Of the definition g of the module instanced.
-fn definition_over(facts: &[u16], params: u8, g: u16) -> bool
-    ensures { λ r. ⌜ r ≡ definitionOver (now (facts .entry)) params g ⌝ }
+fn definition_over(store: &[u16; Store::LENGTH], params: u8, g: u16) -> bool
+    ensures { λ r. ⌜ r ≡ definitionOver (held (now (store .entry)) .facts) params g ⌝ }
 {
-    let k = number_at(facts, Limits::COLUMNS * (g as usize)) as usize;
+    let k = fact_at(store, Limits::COLUMNS * (g as usize)) as usize;
     Limits::ARITY < (params as usize) + k
 }
 
 // Of the definitions from place from to place end.
-fn definitions_over(facts: &[u16], orders: &[u16], from: usize, end: usize, params: u8) -> bool
-    ensures { λ r. ⌜ r ≡ definitionsOver (now (facts .entry)) params (part (now (orders .entry)) from (end - from)) ⌝ }
+fn definitions_over(store: &[u16; Store::LENGTH], from: usize, end: usize, params: u8) -> bool
+    ensures { λ r. ⌜ r ≡ definitionsOver (held (now (store .entry)) .facts) params (part (held (now (store .entry)) .orders) from (end - from)) ⌝ }
 {
     let mut i = from;
     while i < end {
-        if definition_over(facts, params, number_at(orders, i)) {
+        if definition_over(store, params, order_at(store, i)) {
             return true;
         }
         i += 1;
@@ -141,40 +116,31 @@ fn definitions_over(facts: &[u16], orders: &[u16], from: usize, end: usize, para
 }
 
 // Of the definitions of the module instanced, and of their number.
-fn module_over(facts: &[u16], orders: &[u16], heads: &[u16], x: Site, definitions: usize) -> bool
+fn module_over(store: &[u16; Store::LENGTH], x: Site, definitions: usize) -> bool
     requires { ⌜ (x .modules ≤ maxModules) × (definitions ≤ maxDefinitions) ⌝ }
-    ensures { λ r. ⌜ r ≡ moduleOver (now (facts .entry)) (now (orders .entry)) (now (heads .entry)) x definitions ⌝ }
+    ensures { λ r. ⌜ r ≡ moduleOver (held (now (store .entry)) .facts) (held (now (store .entry)) .orders) (held (now (store .entry)) .heads) x definitions ⌝ }
 {
     if x.modules <= x.source {
         return false;
     }
-    let n = number_at(heads, 2 * Limits::PLACES + x.source) as usize;
+    let n = head_at(store, 2 * Limits::PLACES + x.source) as usize;
     if Limits::DEFINITIONS < definitions + n {
         return true;
     }
     let from = x.source * Limits::DEFINITIONS;
-    definitions_over(facts, orders, from, from + n, x.params)
+    definitions_over(store, from, from + n, x.params)
 }
 
 // Of the field.
-pub fn over_limits(
-    file: &[u8],
-    names: &[u16],
-    facts: &[u16],
-    contexts: &[u16],
-    orders: &[u16],
-    heads: &[u16],
-    x: Site,
-    definitions: usize,
-) -> bool
+pub fn over_limits(file: &[u8], store: &[u16; Store::LENGTH], x: Site, definitions: usize) -> bool
     requires { ⌜ (x .modules ≤ maxModules) × (definitions ≤ maxDefinitions) ⌝ }
-    ensures { λ r. ⌜ r ≡ overLimits (now (file .entry)) (now (names .entry)) (now (facts .entry)) (now (contexts .entry)) (now (orders .entry)) (now (heads .entry)) x definitions ⌝ }
+    ensures { λ r. ⌜ r ≡ overLimits (now (file .entry)) (held (now (store .entry)) .names) (held (now (store .entry)) .facts) (held (now (store .entry)) .contexts) (held (now (store .entry)) .orders) (held (now (store .entry)) .heads) x definitions ⌝ }
 {
     if Limits::ARITY < (x.params as usize) {
         return true;
     }
-    if module_over(facts, orders, heads, x, definitions) {
+    if module_over(store, x, definitions) {
         return true;
     }
-    substitutions_over(file, names, facts, contexts, heads, x)
+    substitutions_over(file, store, x)
 }

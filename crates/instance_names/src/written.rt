@@ -3,12 +3,14 @@ ghost use mathlib.Core.Path.{_≡_};
 ghost use Prim.Native.Nat.{_≤_};
 ghost use Rattle.limits.specs.Limits.{maxModules};
 ghost use Rattle.instance_names.specs.Sites.{answeredSome, isWritten, undeclaredAt, undeclaredIn, repeatedFrom};
+ghost use Rattle.store.specs.Store.{held};
 use crate::Site;
 use crate::limits_kept::next_start;
 use context::Operator;
 use context::lookup::find_declared;
 use entering::written::Writing;
 use entering::written::find_substitution;
+use store::Store;
 use tokens::number_at;
 
 fn is_answered(o: Operator) -> bool
@@ -32,32 +34,17 @@ fn is_written(w: Writing) -> bool
 }
 
 // Of the substitution at a position.
-fn undeclared_at(
-    file: &[u8],
-    names: &[u16],
-    facts: &[u16],
-    contexts: &[u16],
-    heads: &[u16],
-    x: Site,
-    at: usize,
-) -> bool
+fn undeclared_at(file: &[u8], store: &[u16; Store::LENGTH], x: Site, at: usize) -> bool
     requires { ⌜ x .source ≤ maxModules ⌝ }
-    ensures { λ r. ⌜ r ≡ undeclaredAt (now (file .entry)) (now (names .entry)) (now (facts .entry)) (now (contexts .entry)) (now (heads .entry)) x at ⌝ }
+    ensures { λ r. ⌜ r ≡ undeclaredAt (now (file .entry)) (held (now (store .entry)) .names) (held (now (store .entry)) .facts) (held (now (store .entry)) .contexts) (held (now (store .entry)) .heads) x at ⌝ }
 {
-    let o = find_declared(names, facts, contexts, heads, x.source, number_at(file, at));
+    let o = find_declared(store, x.source, number_at(file, at));
     if is_answered(o) { false } else { true }
 }
 
-pub fn undeclared_name(
-    file: &[u8],
-    names: &[u16],
-    facts: &[u16],
-    contexts: &[u16],
-    heads: &[u16],
-    x: Site,
-) -> bool
+pub fn undeclared_name(file: &[u8], store: &[u16; Store::LENGTH], x: Site) -> bool
     requires { ⌜ x .source ≤ maxModules ⌝ }
-    ensures { λ r. ⌜ r ≡ undeclaredIn (now (file .entry)) (now (names .entry)) (now (facts .entry)) (now (contexts .entry)) (now (heads .entry)) x (x .count) (x .at) ⌝ }
+    ensures { λ r. ⌜ r ≡ undeclaredIn (now (file .entry)) (held (now (store .entry)) .names) (held (now (store .entry)) .facts) (held (now (store .entry)) .contexts) (held (now (store .entry)) .heads) x (x .count) (x .at) ⌝ }
 {
     let mut at = x.at;
     let mut left = x.count as usize;
@@ -65,7 +52,7 @@ pub fn undeclared_name(
         if file.len() < at {
             return false;
         }
-        if undeclared_at(file, names, facts, contexts, heads, x, at) {
+        if undeclared_at(file, store, x, at) {
             return true;
         }
         at = next_start(file, at);

@@ -9,12 +9,14 @@ use native.Mathlib.Nat.{add-zero, mod-eq-of-lt}
 use native.Mathlib.Omega.{arith}
 use Prim.Native.Nat.{_%_, _*_, _+_, _-_, _<_, _≤_, suc, zero, ℕ}
 use Rattle.context.proofs.Adds.{hold-as, plain-one}
-use Rattle.context.proofs.Change.{entered, fact-count, fact-first, fact-kind, ordered, pushed}
+use Rattle.context.proofs.Change.{fact-count, fact-first, fact-kind}
 use Rattle.context.proofs.Growing.{hold-define, hold-field, hold-note, state}
 use Rattle.context.proofs.Parts.{part-length}
 use Rattle.instancing.specs.Bringing.{bringAll, bringOne, broughtRow, instanceNoted, instanceRow, instancing, pushedContexts, pushedHeads, viaUnder}
 use Rattle.context.specs.Holds.{Holds, Linked, moduleNo}
-use Rattle.context.specs.Store.{Store, afterDefinitions, counts, describedAs, entryAt, fieldCode, instanceKind, kindAt, orderOf, orderSlot, pathOf, stored, variableKind, viaAt, wordCount}
+use Rattle.context.specs.Entries.{afterDefinitions, counts, describedAs, entryAt, fieldCode, instanceKind, orderOf, pathOf, variableKind, wordCount}
+use Rattle.store.specs.Store.{Store, kindAt, orderSlot, viaAt}
+use Rattle.store.specs.Updates.{inContext, inOrder, stored, withRow}
 use Rattle.limits.specs.Limits.{maxDefinitions}
 use Rattle.limits.specs.Sizes.{codeCount, columnCount, factsLength, maxFields}
 use Rattle.rules.specs.Add.{add, underNames, withMore}
@@ -28,7 +30,7 @@ use Rattle.theory.specs.Expand.{Definition, brought}
 use Rattle.theory.specs.Lists.{All, numbersFrom}
 use Rattle.theory.specs.Term.{Kind, Term}
 use Rattle.context.specs.declared.Counts.{Counts}
-use Rattle.context.specs.declared.Row.{Row}
+use Rattle.store.specs.declared.Facts.{Facts}
 
 -- definition g can be brought: it is there, its parameters with the instance's fit a number and, where the instance has a name, it has none
 -- yet (which cause 16 sees to)
@@ -86,7 +88,7 @@ module _ (p : ℕ) (σ : Kind → ℕ → Term) (original : ℕ → Added) (link
     path-same zero plain = ap (λ (a : Added). a .path) shown
     path-same (suc n) plain = rw (eqb·suc-zero n) (ap (_∷_ (suc n)) (sym (plain (omega arith))))
 
-    abbrev pub rowOf : Row
+    abbrev pub rowOf : Facts
     rowOf = broughtRow (v .facts) g p name link
 
     pub stored-one : _≡_ {A = Added}
@@ -112,7 +114,7 @@ module _ (p : ℕ) (σ : Kind → ℕ → Term) (original : ℕ → Added) (link
       (plain-one v c s holds room few (getD (v .names) g 0) (broughtRow (v .facts) g p 0 link) (brought p σ g) (linked-one v c s holds room few g 0 near))
   bring-step v c s holds room few g (suc n) near =
       rw (eqb·suc-zero n)
-      (subst (λ (a : Added). Holds (ordered (entered v (c .definitions) (getD (v .names) g 0) (broughtRow (v .facts) g p (suc n) link)) (c .modules) (c .definitions))
+      (subst (λ (a : Added). Holds (inOrder (withRow v (c .definitions) (getD (v .names) g 0) (broughtRow (v .facts) g p (suc n) link)) (c .modules) (c .definitions))
       (counts (c .fields) (c .declarations) (c .modules) (c .definitions + 1)) (grownBy s (suc n) (c .definitions) (a ∷ []))) (stored-one v c s holds room few g (suc n) near)
       (hold-define v c s holds (getD (v .names) g 0) (broughtRow (v .facts) g p (suc n) link) few (brought p σ g) (linked-one v c s holds room few g (suc n) near)))
 
@@ -172,7 +174,7 @@ unfolding entryAt
 instance-entry names facts f f′ name p first count q at written a b l e =
     let i : fieldCode f - maxDefinitions ≡ f′ = omega arith in
     let r : columnCount * fieldCode f + 5 < length facts = omega arith in
-    let row-there : Row = instanceRow p first count q at written in
+    let row-there : Facts = instanceRow p first count q at written in
     rw (
       le-ltb (fieldCode f) maxDefinitions (omega arith),
       fact-kind facts (fieldCode f) row-there r,
@@ -222,7 +224,7 @@ module _ (v : Store) (c : Counts) (s : State) (holds : Holds v c s) (room : c .f
         (brings-all p (substitute s p (source s m) ss) (definitionAt s) (c .fields + 1) (omega arith) name gs v c s (c .definitions) total holds room refl
         (ap (λ (k : ℕ). c .definitions + k) count-there) few near)
 
-  abbrev rowThere : Row
+  abbrev rowThere : Facts
   rowThere = instanceRow p (c .definitions) count q at written
 
   brought-length : (n : ℕ) → count ≡ length (ds n)
@@ -240,8 +242,8 @@ module _ (v : Store) (c : Counts) (s : State) (holds : Holds v c s) (room : c .f
   unfolding instancing instanceNoted
   adds-named n ready =
       rw (eqb·suc-zero n)
-      (hold-as (pushed (entered w (fieldCode (c .fields)) (suc n) rowThere) (c .modules) (fieldCode (c .fields))) (afterDefinitions count c) _ (add s (instance (suc n) p m ss))
-      (subst (λ (k : ℕ). Holds (pushed (entered w (fieldCode (c .fields)) (suc n) rowThere) (c .modules) (fieldCode (c .fields))) (counts (c .fields + 1) k (c .modules) total)
+      (hold-as (inContext (withRow w (fieldCode (c .fields)) (suc n) rowThere) (c .modules) (fieldCode (c .fields))) (afterDefinitions count c) _ (add s (instance (suc n) p m ss))
+      (subst (λ (k : ℕ). Holds (inContext (withRow w (fieldCode (c .fields)) (suc n) rowThere) (c .modules) (fieldCode (c .fields))) (counts (c .fields + 1) k (c .modules) total)
       (state (suc (s .fields)) 0 (s .declarations + 0) inside (s .ended) (withMore (t .current) (instances (suc n) (s .fields) (numbersFrom (c .definitions) count) ∷ []) []) (t .definitions)))
       (add-zero (c .declarations))
       (hold-field w d t held (suc n) rowThere room (instances (suc n) (s .fields) (numbersFrom (c .definitions) count)) 0 0 inside entry))

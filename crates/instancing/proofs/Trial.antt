@@ -6,14 +6,15 @@ use mathlib.Core.Path.{_≡_, refl}
 use lib.ListN.{getD, length}
 use native.Mathlib.Omega.{arith}
 use Prim.Native.Nat.{_+_}
-use Rattle.context.proofs.Adds.{adds-definition, adds-end, adds-module, adds-variable, empty, hold-start}
+use Rattle.context.proofs.Adds.{adds-definition, adds-end, adds-module, adds-variable, hold-start}
 use Rattle.instancing.proofs.Instancing.{adds-instance}
 use Rattle.context.proofs.Lookups.{brought-law}
 use Rattle.context.proofs.Room.{count-law}
 use Rattle.instancing.specs.Bringing.{instancing}
 use Rattle.context.specs.Holds.{Holds}
 use Rattle.context.specs.Lookup.{codeUnder}
-use Rattle.context.specs.Store.{Store, afterDeclaration, afterDefinitions, afterEnd, afterField, begun, declaring, defining, noCounts, orderSlot, ownRow, variableKind}
+use Rattle.context.specs.Entries.{afterDeclaration, afterDefinitions, afterEnd, afterField, begun, declaring, defining, noCounts, ownRow, variableKind}
+use Rattle.store.specs.Store.{Store, empty, orderSlot}
 use Rattle.rules.specs.Add.{add}
 use Rattle.rules.specs.Expression.{Expression, expression}
 use Rattle.rules.specs.Field.{begin-module, declare-variable, definition, end-module, instance}

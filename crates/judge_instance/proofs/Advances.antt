@@ -2,8 +2,8 @@
 use mathlib.Core.List.{List, [], _++_, _∷_}
 use mathlib.Core.Logic.{inl, inr}
 use mathlib.Core.Option.{none}
-use mathlib.Core.Path.{_∙_, _≡_, ap, refl, sym}
-use lib.ListN.{getD, length, take}
+use mathlib.Core.Path.{_∙_, _≡_, ap, refl, subst⁻¹, sym}
+use lib.ListN.{drop, getD, length, take}
 use native.Mathlib.Nat.{zero-add}
 use native.Mathlib.Omega.{arith}
 use Prim.Native.Nat.{_+_, _*_, _<_, _≤_, ℕ}
@@ -13,7 +13,8 @@ use Rattle.context.proofs.Extends.{source-law}
 use Rattle.context.proofs.Parts.{part-length}
 use Rattle.context.specs.Holds.{Holds, moduleNo}
 use Rattle.context.specs.Parts.{part, placeOf}
-use Rattle.context.specs.Store.{Store, afterDefinitions, codesOf, orderOf, orderSlot}
+use Rattle.context.specs.Entries.{afterDefinitions, codesOf, orderOf}
+use Rattle.store.specs.Store.{Store, orderSlot}
 use Rattle.context.specs.declared.Counts.{Counts}
 use Rattle.entering.specs.Substitutes.{around}
 use Rattle.entering.specs.Written.{writtenAt}
@@ -34,7 +35,7 @@ use Rattle.resolve.proofs.Numbers.{declarationsOf}
 use Rattle.rules.specs.Add.{add}
 use Rattle.rules.specs.Field.{Field, Substitution, instance, writeField}
 use Rattle.rules.specs.Instance.{broughtAll, source, substitute, substitutionFor}
-use Rattle.rules.specs.Judge.{Cause, causes, firstCause, judge}
+use Rattle.rules.specs.Judge.{causes, firstCause, judge}
 use Rattle.rules.specs.State.{Module, State, noDefinition, templatesOf}
 use Rattle.standing.proofs.Adding.{stands-defined}
 use Rattle.standing.proofs.Advancing.{room}
@@ -44,7 +45,7 @@ use Rattle.standing.proofs.Growth.{grows-add}
 use Rattle.standing.specs.Shown.{ownerShift}
 use Rattle.standing.specs.Chained.{Chained}
 use Rattle.standing.specs.Grows.{RowsKept}
-use Rattle.standing.specs.Standing.{AtField, Standing, itselves}
+use Rattle.standing.specs.Standing.{AtField, DeclaredCodes, Standing, itselves}
 use Rattle.texts.specs.Text.{Declarations}
 use Rattle.theory.proofs.Lists.{at-all}
 use Rattle.theory.specs.Expand.{aritiesOf}
@@ -55,15 +56,17 @@ use Rattle.worlds.proofs.Invariant.{length-meanings}
 use Rattle.worlds.specs.Rows.{Row, rowsAfter}
 use Rattle.judge_instance.proofs.Clearing.{few-new, few-params, formed}
 use Rattle.judge_instance.proofs.Chaining.{chained-after}
+use Rattle.instance_names.proofs.InOrder.{same-first}
+use Rattle.judge_instance.proofs.Bringing.{declared-kept}
 use Rattle.judge_instance.proofs.Deciding.{after-names, cleared}
 use Rattle.judge_instance.proofs.Field.{rows-kept}
 use Rattle.judge_instance.proofs.Holding.{holds-after}
 use Rattle.judge_instance.proofs.LevelLaws.{later-law}
 use Rattle.judge_instance.specs.Cleared.{Cleared}
-use Rattle.judge_instance.specs.Levels.{LaterJudged, laterCause}
+use Rattle.judge_instance.specs.Levels.{LaterJudged, laterCauses}
 
-module _ (file : List ℕ) (fs : List Field) (s : State) (rs : List Row) (v : Store) (c : Counts) (ph : Phase) (refs words declared : List ℕ)
-    (stands : Standing file fs s rs v c ph refs words declared) (n p m k at : ℕ) (ss : List Substitution)
+module _ (file : List ℕ) (fs : List Field) (s : State) (rs : List Row) (v : Store) (c : Counts) (ph : Phase) (refs words : List ℕ)
+    (stands : Standing file fs s rs v c ph refs words) (n p m k at : ℕ) (ss : List Substitution)
     (there : AtField file s (Instance n p m k at) (instance n p m ss)) (r₁ : ℕ) (refs′ : List ℕ)
     (names : NamesRight file fs s v c n p m k at ss r₁ refs refs′) (zero₁ : r₁ ≡ 0) where
   abbrev f : Field
@@ -86,7 +89,7 @@ module _ (file : List ℕ) (fs : List Field) (s : State) (rs : List Row) (v : St
   clear = cleared s n p m ss none-before
 
   room-here : c .fields < maxFields
-  room-here = room file fs s rs v c ph refs words declared stands (Instance n p m k at) f there
+  room-here = room file fs s rs v c ph refs words stands (Instance n p m k at) f there
 
   pub small-params : p ≤ maxArity
   small-params = few-params s n p m ss clear
@@ -119,12 +122,11 @@ module _ (file : List ℕ) (fs : List Field) (s : State) (rs : List Row) (v : St
       → LaterJudged (around file refs′ itselves words (v .names) (v .facts) (v .contexts) (v .heads))
       (record { outer = 0; params = p; owner = c .modules; start = at; count = k }) (codesOf v q) (orderOf (v .orders) (v .heads) q) r
       → r ≡ causeNumber (judge s (instance n p m ss))
-  unfolding laterCause
   later-right r later =
       later .cause
-      ∙ ap (λ (cs : List Cause). causeNumber (firstCause cs))
+      ∙ ap causeNumber (same-first (laterCauses (later .constant) (later .seen) (later .named)) (drop 7 (causes s (instance n p m ss)))
       (later-law v c s (stands .holds) fs (stands .declares) (stands .origins) (stands .good) words (stands .forms) (stands .codes .few) p m q at k ss earlier found
-      small-params (clear .known) formed-here file refs′ end agrees (later .constant) (later .constancy) (later .seen) (later .levels) (later .named) (later .instances))
+      small-params (clear .known) formed-here file refs′ end agrees (later .constant) (later .constancy) (later .seen) (later .levels) (later .named) (later .instances)))
       ∙ sym (ap causeNumber (after-names s n p m ss none-before))
 
   -- Bringing a lawful field
@@ -158,7 +160,11 @@ module _ (file : List ℕ) (fs : List Field) (s : State) (rs : List Row) (v : St
         chained-after v c s (stands .holds) fs (stands .declares) (stands .origins) (stands .good) room-here n p m q at k ss earlier found few small (clear .known)
         (grows-add v c s v₁ c₁ (stands .holds) rows (stands .fresh) f lawful holds₁) rs (stands .worlds) file refs refs′ end agrees (s .bytes) (stands .chained) (names .noted) (omega arith)
 
-    ready : Ready file refs′ v₁ declared (c .declarations) c₁ s₁ rs₁ decls end
+    -- the codes of the declarations stay
+    pub same-codes : v₁ .declared ≡ v .declared
+    same-codes = declared-kept c n p q at (k + ownerShift * c .modules) v
+
+    ready : Ready file refs′ v₁ (v₁ .declared) (c .declarations) c₁ s₁ rs₁ decls end
     ready =
         let worlds₁ = worlds-add s rs f (stands .worlds) in
         record {
@@ -169,7 +175,7 @@ module _ (file : List ℕ) (fs : List Field) (s : State) (rs : List Row) (v : St
           sound = good-add s f (there .fits) lawful (stands .good) .sound;
           named = λ D l. covered-add fs s rs f (stands .origins) lawful (stands .worlds) (stands .covered) .all D (omega (arith, worlds₁ .book .counted, length-meanings s₁));
           chained = chained₁;
-          codes = codes-kept v c v₁ decls declared rows (stands .early) (stands .codes);
+          codes = subst⁻¹ (DeclaredCodes v₁ decls) same-codes (codes-kept v c v₁ decls (v .declared) rows (stands .early) (stands .codes));
           numbered = omega (arith, stands .declares .counted);
           params = λ g l. at-all (λ d. d .params ≤ maxArity) (s₁ .definitions) g noDefinition (within-add s f lawful (stands .within) .params) l;
         }
@@ -182,14 +188,14 @@ module _ (file : List ℕ) (fs : List Field) (s : State) (rs : List Row) (v : St
         ∙ stands .forms .definitions g us t (e ∙ params-kept s s₁ (broughtAll s n p (source s m) ss) refl g t) a
         ∙ sym (card-kept s s₁ (broughtAll s n p (source s m) ss) refl g us t)
 
-    module _ (words′ : List ℕ) (forms : BroughtForms file refs′ v₁ declared (c .declarations) (c .definitions) (getD (v .heads) (orderSlot q) 0) words words′) where
+    module _ (words′ : List ℕ) (forms : BroughtForms file refs′ v₁ (v₁ .declared) (c .declarations) (c .definitions) (getD (v .heads) (orderSlot q) 0) words words′) where
       new-forms : FormsBelow words′ s₁ (c .definitions + getD (v .heads) (orderSlot q) 0)
       new-forms = forms .right c₁ s₁ rs₁ decls end ready (omega arith) old-forms (λ d us l e a. stands .forms .declarations d us l e a)
 
       -- All stands after it.
       pub stands-brought : Standing file (fs ++ (instance n p m ss ∷ [])) (add s (instance n p m ss)) (rowsAfter s rs (instance n p m ss))
-          (instancing c n p q at (k + ownerShift * c .modules) v) (afterDefinitions (getD (v .heads) (orderSlot q) 0) c) Inside refs′ words′ declared
+          (instancing c n p q at (k + ownerShift * c .modules) v) (afterDefinitions (getD (v .heads) (orderSlot q) 0) c) Inside refs′ words′
       stands-brought =
-          stands-defined file fs s rs v c ph refs words declared stands (Instance n p m k at) f there lawful v₁ c₁ Inside refs′ holds₁
-          refl rows words′ (broughtAll s n p (source s m) ss) refl refl (names .noted) (names .size ∙ stands .refs-size) (forms .size ∙ stands .words-size)
+          stands-defined file fs s rs v c ph refs words stands (Instance n p m k at) f there lawful v₁ c₁ Inside refs′ holds₁
+          refl rows same-codes words′ (broughtAll s n p (source s m) ss) refl refl (names .noted) (names .size ∙ stands .refs-size) (forms .size ∙ stands .words-size)
           (λ g l. forms .others g (inl l)) (λ d l. forms .others (maxDefinitions + d) (inr (omega (arith, few)))) (λ g us a l e z. new-forms g us l e z) (λ D a l. chained₁ .each D l)

@@ -7,13 +7,16 @@ use native.Mathlib.Nat.{add-zero}
 use native.Mathlib.Omega.{arith}
 use Prim.Native.Nat.{_*_, _+_, _<_, _≤_, suc, zero, ℕ}
 use Rattle.context.proofs.Change.{fact-first, fact-kind, fact-link, fact-other, fact-source, fact-via, stored-length}
-use Rattle.context.specs.Store.{Store, firstAt, kindAt, linkAt, sourceAt, stored, viaAt}
-use Rattle.context.specs.declared.Row.{Row}
-use Rattle.instancing.specs.Bringing.{bringAll, bringOne, broughtRow, instanceNoted}
+use Rattle.store.specs.Store.{Store, firstAt, kindAt, linkAt, sourceAt, viaAt}
+use Rattle.store.specs.Updates.{stored}
+use Rattle.store.specs.declared.Facts.{Facts}
+use Rattle.instancing.specs.Bringing.{bringAll, bringOne, broughtRow, instanceNoted, instancing}
+use Rattle.context.specs.Entries.{orderOf}
+use Rattle.context.specs.declared.Counts.{Counts}
 use Rattle.limits.specs.Sizes.{columnCount}
 
 -- a column of a code that is not stored
-fact-apart : (facts : List ℕ) (o : ℕ) (r : Row) (x k : ℕ) → (x ≡ o → ⊥) → k < columnCount
+fact-apart : (facts : List ℕ) (o : ℕ) (r : Facts) (x k : ℕ) → (x ≡ o → ⊥) → k < columnCount
     → getD (stored facts o r) (columnCount * x + k) 0 ≡ getD facts (columnCount * x + k) 0
 fact-apart facts o r x k n l =
     fact-other facts o r (columnCount * x + k) (λ (j : ℕ) (m : j < columnCount) (e : columnCount * x + k ≡ columnCount * o + j). n (omega arith))
@@ -24,6 +27,12 @@ module _ (m p name link : ℕ) where
 
   abbrev one : Store → ℕ → ℕ → Store
   one v o g = bringOne m p name link v o g
+
+  -- the codes of the declarations stay
+  pub all-declared : (gs : List ℕ) (v : Store) (o : ℕ) → all v o gs .declared ≡ v .declared
+  unfolding bringAll bringOne
+  all-declared [] v o = refl
+  all-declared (g ∷ gs) v o = all-declared gs (one v o g) (suc o)
 
   -- Codes that it does not store keep their names and facts,
 
@@ -76,7 +85,7 @@ module _ (m p name link : ℕ) where
       ap (linkAt (all (one v o g) (suc o) gs .facts)) e ∙ all-link gs (one v o g) (suc o) i (omega arith) (omega arith)
 
 -- what is kept of the field
-module _ (m o name : ℕ) (r : Row) (v : Store) where
+module _ (m o name : ℕ) (r : Facts) (v : Store) where
   abbrev noted : Store
   noted = instanceNoted m o name r v
 
@@ -108,3 +117,7 @@ module _ (m o name : ℕ) (r : Row) (v : Store) where
     pub noted-link : linkAt (noted .facts) o ≡ r .link
     unfolding instanceNoted
     noted-link = fact-link (v .facts) o r fits
+
+pub declared-kept : (c : Counts) (n p q at w : ℕ) (v : Store) → instancing c n p q at w v .declared ≡ v .declared
+unfolding instancing instanceNoted
+declared-kept c n p q at w v = all-declared (c .modules) p n (c .fields + 1) (orderOf (v .orders) (v .heads) q) v (c .definitions)

@@ -10,7 +10,8 @@ use native.Mathlib.Omega.{arith}
 use Prim.Native.Nat.{_*_, _+_, _-_, _<_, _≤_, ℕ}
 use Rattle.context.proofs.Parts.{part-length}
 use Rattle.context.specs.Holds.{Holds, moduleNo}
-use Rattle.context.specs.Store.{Store, afterDefinitions, orderOf, orderSlot}
+use Rattle.context.specs.Entries.{afterDefinitions, orderOf}
+use Rattle.store.specs.Store.{Store, orderSlot}
 use Rattle.context.specs.declared.Counts.{Counts}
 use Rattle.entering.specs.Written.{writtenAt}
 use Rattle.instancing.specs.Bringing.{instancing}

@@ -10,7 +10,8 @@ use Prim.Native.Nat.{_*_, _+_, _-_, _<_, _≤_, ℕ}
 use Rattle.context.proofs.Parts.{part-end, part-turn}
 use Rattle.context.specs.Lookup.{isDeclared}
 use Rattle.context.specs.Parts.{part}
-use Rattle.context.specs.Store.{contextCodes, contextSlot, kindAt, orderOf, orderSlot, variableKind}
+use Rattle.context.specs.Entries.{contextCodes, orderOf, variableKind}
+use Rattle.store.specs.Store.{contextSlot, kindAt, orderSlot}
 use Rattle.forms.specs.Forms.{levelAt}
 use Rattle.limits.specs.Limits.{maxDefinitions}
 use Rattle.limits.specs.Sizes.{columnCount, contextLength}

@@ -6,9 +6,10 @@ use native.Mathlib.Omega.{arith}
 use Prim.Native.Nat.{_*_, _+_, _<_, _≤_, suc, ℕ}
 use Rattle.context.proofs.Parts.{part-length}
 use Rattle.context.specs.Holds.{Known, Sized}
-use Rattle.context.specs.Store.{Store, fieldCode, firstAt, instanceKind, kindAt, linkAt, orderOf, orderSlot, sourceAt, viaAt}
+use Rattle.context.specs.Entries.{fieldCode, instanceKind, orderOf}
+use Rattle.store.specs.Store.{Store, firstAt, kindAt, linkAt, orderSlot, sourceAt, viaAt}
 use Rattle.context.specs.declared.Counts.{Counts}
-use Rattle.context.specs.declared.Row.{Row}
+use Rattle.store.specs.declared.Facts.{Facts}
 use Rattle.instancing.specs.Bringing.{bringAll, instanceRow, instancing}
 use Rattle.limits.specs.Limits.{maxDefinitions}
 use Rattle.limits.specs.Sizes.{columnCount, maxFields}
@@ -33,7 +34,7 @@ module _ (v : Store) (c : Counts) (sized : Sized v c) (room : c .fields < maxFie
   abbrev half : Store
   half = bringAll (c .modules) p name (c .fields + 1) v (c .definitions) broughtFrom
 
-  abbrev rowThere : Row
+  abbrev rowThere : Facts
   rowThere = instanceRow p (c .definitions) broughtCount q at written
 
   abbrev code : ℕ

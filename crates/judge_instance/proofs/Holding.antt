@@ -6,7 +6,8 @@ use lib.ListN.{getD, length}
 use native.Mathlib.Omega.{arith}
 use Prim.Native.Nat.{_+_, _<_, _≤_, ℕ}
 use Rattle.context.specs.Holds.{Holds, moduleNo}
-use Rattle.context.specs.Store.{Store, afterDefinitions, orderSlot}
+use Rattle.context.specs.Entries.{afterDefinitions}
+use Rattle.store.specs.Store.{Store, orderSlot}
 use Rattle.context.specs.declared.Counts.{Counts}
 use Rattle.instancing.proofs.Instancing.{Ready, adds-instance}
 use Rattle.instancing.specs.Bringing.{instancing}

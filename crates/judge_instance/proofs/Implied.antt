@@ -11,7 +11,8 @@ use Prim.Native.Nat.{_+_, _-_, _<_, _≤_, ℕ}
 use Rattle.context.proofs.Lookups.{current-no, entry-named, entryOf}
 use Rattle.context.specs.Holds.{Holds, moduleNo}
 use Rattle.context.specs.Lookup.{asCode, codeNamed, operatorAt, operatorIn}
-use Rattle.context.specs.Store.{Store, codesOf, countAt, entryAt, fieldCode, firstAt, kindAt, variableKind}
+use Rattle.context.specs.Entries.{codesOf, entryAt, fieldCode, variableKind}
+use Rattle.store.specs.Store.{Store, countAt, firstAt, kindAt}
 use Rattle.context.specs.declared.Counts.{Counts}
 use Rattle.context.specs.declared.Operator.the-variants.{Constant, Variable, Defined, Unknown}
 use Rattle.entering.specs.Implied.{impliedRef, numberOf, refOf}

@@ -11,7 +11,8 @@ use Rattle.context.proofs.Judging.{kindAnswered, kindOf}
 use Rattle.context.proofs.Parts.{part-end, part-turn}
 use Rattle.context.specs.Lookup.{asCode, declaredNamed, instanceAmong, isDeclared, operatorIn}
 use Rattle.context.specs.Parts.{part}
-use Rattle.context.specs.Store.{contextCodes, contextSlot, kindAt}
+use Rattle.context.specs.Entries.{contextCodes}
+use Rattle.store.specs.Store.{contextSlot, kindAt}
 use Rattle.context.specs.declared.Operator.{Operator}
 use Rattle.context.specs.declared.Operator.the-variants.{Constant, Variable, Defined, Unknown}
 use Rattle.entering.specs.Substitutes.{Around, Stands, around}
@@ -25,7 +26,8 @@ use Rattle.theory.proofs.Lists.{never}
 use Rattle.theory.specs.Lists.{numbersFrom}
 use Rattle.theory.specs.Term.{Kind, constant, variable}
 use Rattle.judge_instance.specs.Constancy.{constantCodes}
-use Rattle.judge_instance.specs.Levels.{LaterJudged, LevelFound, LevelsSeen, Tested, answers, isAt, isFree, isIncorrect, isMixed, isUnlawful, laterCause, laterCauses, ownKind, seenWith}
+use Rattle.instance_names.specs.Causes.{firstNumber}
+use Rattle.judge_instance.specs.Levels.{LaterJudged, LevelFound, LevelsSeen, Tested, answers, isAt, isFree, isIncorrect, isMixed, isUnlawful, laterCauses, ownKind, seenWith}
 use Rattle.judge_instance.specs.declared.lawful.Seen.{Seen}
 
 pub eqb-turn : (a b : ℕ) → eqb a b ≡ eqb b a
@@ -98,25 +100,25 @@ module _ (b : Bool) (seen : Seen) where
   mixed-other e = rw e refl
 
   module _ (named : Bool) where
-    pub seen-12 : seen .incorrect ≡ true → 12 ≡ laterCause b seen named
-    unfolding laterCause laterCauses
+    pub seen-12 : seen .incorrect ≡ true → 12 ≡ firstNumber (laterCauses b seen named)
+    unfolding laterCauses
     seen-12 e = rw e refl
 
-    pub seen-14 : seen .incorrect ≡ false → seen .unlawful ≡ true → 14 ≡ laterCause b seen named
-    unfolding laterCause laterCauses
+    pub seen-14 : seen .incorrect ≡ false → seen .unlawful ≡ true → 14 ≡ firstNumber (laterCauses b seen named)
+    unfolding laterCauses
     seen-14 e f = rw (e, f) refl
 
     module _ (r : Bool) (h : r ≡ isMixed b seen) where
-      pub seen-21 : seen .incorrect ≡ false → seen .unlawful ≡ false → r ≡ true → 21 ≡ laterCause b seen named
-      unfolding laterCause laterCauses
+      pub seen-21 : seen .incorrect ≡ false → seen .unlawful ≡ false → r ≡ true → 21 ≡ firstNumber (laterCauses b seen named)
+      unfolding laterCauses
       seen-21 e f g = rw (sym h, g, e, f) refl
 
-      pub seen-16 : seen .incorrect ≡ false → seen .unlawful ≡ false → r ≡ false → named ≡ true → 16 ≡ laterCause b seen named
-      unfolding laterCause laterCauses
+      pub seen-16 : seen .incorrect ≡ false → seen .unlawful ≡ false → r ≡ false → named ≡ true → 16 ≡ firstNumber (laterCauses b seen named)
+      unfolding laterCauses
       seen-16 e f g i = rw (sym h, g, e, f, i) refl
 
-      pub seen-0 : seen .incorrect ≡ false → seen .unlawful ≡ false → r ≡ false → named ≡ false → 0 ≡ laterCause b seen named
-      unfolding laterCause laterCauses
+      pub seen-0 : seen .incorrect ≡ false → seen .unlawful ≡ false → r ≡ false → named ≡ false → 0 ≡ firstNumber (laterCauses b seen named)
+      unfolding laterCauses
       seen-0 e f g i = rw (sym h, g, e, f, i) refl
 
 -- is_answer
@@ -169,15 +171,15 @@ module _ (a : Around) (site : Site) (codes : List ℕ) (o : ℕ) (b : Bool) (e :
 
 -- seen_among: what was seen, and what is left tested, are the whole
 module _ (a : Around) (site : Site) (codes : List ℕ) where
-  record Left (p : Kind → ℕ → Bool) (before : Bool) (cs ds : List ℕ) : Type 0 where
+  record SoFar (p : Kind → ℕ → Bool) (before : Bool) (cs ds : List ℕ) : Type 0 where
     later : (r : Bool) → Tested a site codes p cs r → Tested a site codes p ds (before || r)
 
-  left-all : (p : Kind → ℕ → Bool) (cs : List ℕ) → Left p false cs cs
+  left-all : (p : Kind → ℕ → Bool) (cs : List ℕ) → SoFar p false cs cs
   left-all p cs = record { later = λ r t. t }
 
   module _ (xs : List ℕ) (i end : ℕ) (ds : List ℕ) where
-    left-next : (p : Kind → ℕ → Bool) (before : Bool) (l : ℕ) → i < end → LevelFound a site codes (getD xs i 0) l → Left p before (part xs i (end - i)) ds
-        → Left p (before || p (kindOf (kindAt (a .facts) (getD xs i 0))) l) (part xs (i + 1) (end - (i + 1))) ds
+    left-next : (p : Kind → ℕ → Bool) (before : Bool) (l : ℕ) → i < end → LevelFound a site codes (getD xs i 0) l → SoFar p before (part xs i (end - i)) ds
+        → SoFar p (before || p (kindOf (kindAt (a .facts) (getD xs i 0))) l) (part xs (i + 1) (end - (i + 1))) ds
     left-next p before l h f left =
         record { later = λ r t. subst (Tested a site codes p ds) (sym (or-assoc before this r)) (left .later (this || r) (subst (λ (cs : List ℕ). Tested a site codes p cs (this || r)) (sym (part-turn xs i end h)) (one r t))) }
       where
@@ -187,17 +189,17 @@ module _ (a : Around) (site : Site) (codes : List ℕ) where
         one : (r : Bool) → Tested a site codes p (part xs (i + 1) (end - (i + 1))) r → Tested a site codes p (getD xs i 0 ∷ part xs (i + 1) (end - (i + 1))) (this || r)
         one r t = record { says = λ u w. ap₂ _||_ (sym (w .0 l f)) (t .says u (w .1)) }
 
-    left-end : (p : Kind → ℕ → Bool) (before : Bool) → end ≤ i → Left p before (part xs i (end - i)) ds → Tested a site codes p ds before
+    left-end : (p : Kind → ℕ → Bool) (before : Bool) → end ≤ i → SoFar p before (part xs i (end - i)) ds → Tested a site codes p ds before
     left-end p before h left =
         subst (Tested a site codes p ds) (or-false before)
         (left .later false (subst (λ (cs : List ℕ). Tested a site codes p cs false) (sym (part-end xs i end h)) (record { says = λ t w. refl })))
 
   module _ (b : Bool) where
     pub record SeenLeft (seen : Seen) (cs ds : List ℕ) : Type 0 where
-      incorrect : Left isIncorrect (seen .incorrect) cs ds
-      unlawful : Left (isUnlawful b) (seen .unlawful) cs ds
-      transition : Left (isAt 2) (seen .transition) cs ds
-      temporal : Left (isAt 3) (seen .temporal) cs ds
+      incorrect : SoFar isIncorrect (seen .incorrect) cs ds
+      unlawful : SoFar (isUnlawful b) (seen .unlawful) cs ds
+      transition : SoFar (isAt 2) (seen .transition) cs ds
+      temporal : SoFar (isAt 3) (seen .temporal) cs ds
 
     pub seen-start : (cs : List ℕ) → SeenLeft (record { incorrect = false; unlawful = false; transition = false; temporal = false }) cs cs
     seen-start cs =
@@ -236,7 +238,7 @@ seen-whole a site codes b r contexts heads q count e t =
 
 -- cause_in
 pub later-judged : (a : Around) (site : Site) (codes gs : List ℕ) (b : Bool) (seen : Seen) (named : Bool) (r : ℕ) → b ≡ constantCodes (a .words) (a .facts) codes gs
-    → LevelsSeen a site codes b codes seen → named ≡ instanceAmong (a .facts) codes → r ≡ laterCause b seen named → LaterJudged a site codes gs r
+    → LevelsSeen a site codes b codes seen → named ≡ instanceAmong (a .facts) codes → r ≡ firstNumber (laterCauses b seen named) → LaterJudged a site codes gs r
 later-judged a site codes gs b seen named r e l n c = record { constant = b; seen = seen; named = named; constancy = e; levels = l; instances = n; cause = c }
 
 -- later_cause

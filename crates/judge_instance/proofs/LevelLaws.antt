@@ -12,7 +12,8 @@ use Prim.Native.Nat.{_+_, _-_, _<_, _≤_, suc, zero, ℕ}
 use Rattle.context.proofs.Judging.{any-declared-law, any-each, any-map, kind-law, kindAnswered, kindOf, named-instance-law}
 use Rattle.context.specs.Holds.{Holds, moduleNo}
 use Rattle.context.specs.Lookup.{asCode, declaredNamed, instanceAmong, isDeclared, operatorIn}
-use Rattle.context.specs.Store.{Store, codesOf, countAt, entryAt, fieldCode, firstAt, kindAt, orderOf, variableKind}
+use Rattle.context.specs.Entries.{codesOf, entryAt, fieldCode, orderOf, variableKind}
+use Rattle.store.specs.Store.{Store, countAt, firstAt, kindAt}
 use Rattle.context.specs.declared.Counts.{Counts}
 use Rattle.entering.specs.Implied.{argumentsOf, impliedLevel, impliedRef}
 use Rattle.entering.specs.Substitutes.{Around, StandsBy, around}
@@ -43,10 +44,11 @@ use Rattle.theory.specs.Expand.{aritiesOf, itself}
 use Rattle.theory.specs.Lists.{All, any, numbersFrom, orElse}
 use Rattle.theory.specs.Term.{Fits, Head, Kind, WellFormed, constant, declared, declaredLevel, kindArity, leaf, literal, variable}
 use Rattle.judge_instance.proofs.Implied.{implied-found}
-use Rattle.judge_instance.proofs.Levels.{highest-zero, implied-zero, itself-zero, written-zero, zeros-length, zeros-low}
+use Rattle.judge_instance.proofs.SubstituteLevels.{highest-zero, implied-zero, itself-zero, written-zero, zeros-length, zeros-low}
 use Rattle.judge_instance.proofs.Linking.{itself-known, substitute-declared}
 use Rattle.instance_names.specs.Names.{Agrees}
 use Rattle.judge_instance.specs.Constancy.{constantCodes, isVariableCode, unevenAmong, unevenForm, variableAmong}
+use Rattle.instance_names.proofs.InOrder.{Same}
 use Rattle.judge_instance.specs.Levels.{LevelFound, LevelsSeen, Tested, answers, isAt, isIncorrect, isMixed, isUnlawful, laterCauses, ownKind}
 use Rattle.judge_instance.specs.declared.lawful.Seen.{Seen}
 
@@ -296,14 +298,24 @@ module _ (v : Store) (c : Counts) (s : State) (holds : Holds v c s) (fs : List F
   -- What was seen decides these causes.
   pub later-law : (b : Bool) → b ≡ constantCodes words facts codes (orderOf (v .orders) (v .heads) q) → (seen : Seen) → LevelsSeen aroundHere siteHere codes b codes seen
       → (instanced : Bool) → instanced ≡ instanceAmong facts codes
-      → laterCauses b seen instanced
-      ≡ (12, substituteNotLevelCorrect s p (source s m) ss) ∷ (14, unlawfulSubstitute s p (source s m) ss) ∷ (21, mixedSubstitutes s p (source s m) ss)
-      ∷ (16, hasNamedInstance (source s m)) ∷ []
+      → Same (laterCauses b seen instanced)
+      ((12, substituteNotLevelCorrect s p (source s m) ss) ∷ (14, unlawfulSubstitute s p (source s m) ss) ∷ (21, mixedSubstitutes s p (source s m) ss)
+      ∷ (16, hasNamedInstance (source s m)) ∷ [])
   unfolding laterCauses isMixed
-  later-law b e seen l instanced i =
-      ap₂ _∷_ (ap (λ (x : Bool). (12, x)) (any-tested isIncorrect incorrect-fine (seen .incorrect) (l .incorrect)))
-      (ap₂ _∷_ (ap (λ (x : Bool). (14, x)) unlawfully)
-      (ap₂ _∷_ (ap (λ (x : Bool). (21, x)) (ap₂ _&&_ same (ap₂ _&&_ two three))) (ap₂ _∷_ (ap (λ (x : Bool). (16, x)) (i ∙ sixteen)) refl)))
+  later-law b e seen l instanced i = (
+    refl,
+    any-tested isIncorrect incorrect-fine (seen .incorrect) (l .incorrect),
+    λ _. (
+      refl,
+      unlawfully,
+      λ _. (
+        refl,
+        ap₂ _&&_ same (ap₂ _&&_ two three),
+        λ _.
+            (refl, i ∙ sixteen, λ _. tt),
+      ),
+    ),
+  )
     where
       same : b ≡ isConstant s M
       same = e ∙ constant-law

@@ -5,7 +5,7 @@ pub mod Linking
 pub mod Chaining
 pub mod Clearing
 pub mod Holding
-pub mod Levels
+pub mod SubstituteLevels
 pub mod LevelLaws
 pub mod LevelCases
 pub mod ConstancyCases

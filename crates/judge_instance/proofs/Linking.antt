@@ -11,7 +11,8 @@ use Prim.Native.Nat.{_*_, _+_, _<_, _≤_, ℕ}
 use Rattle.context.proofs.Judging.{kind-law, kindAnswered}
 use Rattle.context.specs.Holds.{Holds, moduleNo}
 use Rattle.context.specs.Lookup.{asCode, declaredNamed, declaresName, isDeclared, operatorAt, operatorIn}
-use Rattle.context.specs.Store.{Store, afterDefinitions, codesOf, fieldCode, kindAt, orderSlot, variableKind}
+use Rattle.context.specs.Entries.{afterDefinitions, codesOf, fieldCode, variableKind}
+use Rattle.store.specs.Store.{Store, kindAt, orderSlot}
 use Rattle.context.specs.declared.Counts.{Counts}
 use Rattle.context.specs.declared.Operator.the-variants.{Constant, Variable, Defined, Unknown}
 use Rattle.entering.proofs.Outset.{kindNumber}

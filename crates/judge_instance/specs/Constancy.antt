@@ -4,7 +4,8 @@ use mathlib.Core.List.{List}
 use Prim.Native.Nat.{ℕ}
 use lib.Dec.{eqb, ltb}
 use Rattle.context.specs.Lookup.{isDeclared}
-use Rattle.context.specs.Store.{kindAt, variableKind}
+use Rattle.context.specs.Entries.{variableKind}
+use Rattle.store.specs.Store.{kindAt}
 use Rattle.forms.specs.Forms.{formAt, levelAt}
 use Rattle.limits.specs.Limits.{maxDefinitions}
 use Rattle.rules.specs.State.{zeros}

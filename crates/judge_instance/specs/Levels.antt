@@ -8,14 +8,14 @@ use lib.Dec.{eqb}
 use lib.ListN.{getD}
 use Rattle.context.proofs.Judging.{kindAnswered, kindOf}
 use Rattle.context.specs.Lookup.{asCode, declaredNamed, instanceAmong, isDeclared, operatorIn}
-use Rattle.context.specs.Store.{kindAt}
+use Rattle.store.specs.Store.{kindAt}
 use Rattle.context.specs.declared.Operator.{Operator}
 use Rattle.entering.specs.Substitutes.{Around, Stands}
 use Rattle.entering.specs.declared.substitutes.Site.{Site}
 use Rattle.forms.specs.Forms.{levelAt}
-use Rattle.judge_plain.specs.Judges.{causeNumber}
+use Rattle.instance_names.specs.Causes.{firstNumber}
 use Rattle.rules.specs.Instance.{isKind, lawful}
-use Rattle.rules.specs.Judge.{Cause, firstCause}
+use Rattle.rules.specs.Judge.{Cause}
 use Rattle.rules.specs.State.{zeros}
 use Rattle.theory.specs.Level.{verdict}
 use Rattle.theory.specs.Lists.{All, any}
@@ -81,12 +81,14 @@ seenWith constant seen k l =
 unfoldable pub isMixed : Bool → Seen → Bool
 isMixed constant seen = constant && (seen .transition && seen .temporal)
 
--- the causes after the names, in the order of the rules, and the first that holds; `named` says whether the module instanced has a named instance
+-- The causes after the names by the tests of the code, in the order of the rules; `named` says whether the module instanced has a named instance.
 unfoldable pub laterCauses : Bool → Seen → Bool → List Cause
-laterCauses constant seen named = (12, seen .incorrect) ∷ (14, seen .unlawful) ∷ (21, isMixed constant seen) ∷ (16, named) ∷ []
-
-unfoldable pub laterCause : Bool → Seen → Bool → ℕ
-laterCause constant seen named = causeNumber (firstCause (laterCauses constant seen named))
+laterCauses constant seen named =
+    (12, seen .incorrect)
+    ∷ (14, seen .unlawful)
+    ∷ (21, isMixed constant seen)
+    ∷ (16, named)
+    ∷ []
 
 pub record LaterJudged (a : Around) (site : Site) (codes gs : List ℕ) (r : ℕ) : Type 0 where
   pub constant : Bool
@@ -95,4 +97,4 @@ pub record LaterJudged (a : Around) (site : Site) (codes gs : List ℕ) (r : ℕ
   pub constancy : constant ≡ constantCodes (a .words) (a .facts) codes gs
   pub levels : LevelsSeen a site codes constant codes seen
   pub instances : named ≡ instanceAmong (a .facts) codes
-  pub cause : r ≡ laterCause constant seen named
+  pub cause : r ≡ firstNumber (laterCauses constant seen named)

@@ -3,75 +3,37 @@ pub mod adding;
 pub mod constancy;
 pub mod lawful;
 
-ghost use Rattle.context.specs.Store.{store};
-ghost use Rattle.fields.specs.declared.Parts.the-variants.{Instance};
+ghost use Rattle.fields.specs.declared.Parts.the-variants.{Instance as InstanceParts};
 ghost use Rattle.standing.specs.Standing.{Judging, Underway};
+ghost use Rattle.store.specs.Store.{held};
 use crate::adding::lawful_field;
 use context::Counts;
 use context::lookup::find_module;
+use instance_names::Instance;
 use instance_names::instance_cause;
 use judge_plain::Judged;
 use judge_plain::Phase;
 use judge_plain::refused;
+use store::Lent;
+use store::Store;
 
-// An INSTANCE field, of that name or 0, with so many parameters, of module `source`; `count` substitutions are written from position at on.
+// An INSTANCE field.
 pub fn instance_field(
     file: &[u8],
-    names: &mut [u16],
-    facts: &mut [u16],
-    contexts: &mut [u16],
-    orders: &mut [u16],
-    heads: &mut [u16],
-    refs: &mut [u16],
-    words: &mut [u64],
-    declared: &[u16],
+    store: &mut [u16; Store::LENGTH],
+    refs: &mut [u16; Lent::REFS],
+    words: &mut [u64; Lent::WORDS],
     phase: Phase,
     c: Counts,
-    name: u16,
-    params: u8,
-    source: u16,
-    count: u8,
-    at: usize,
+    f: Instance,
 ) -> Judged
-    requires { ⌜ Underway (now file) (store (now names) (now facts) (now contexts) (now orders) (now heads)) c phase (now refs) (now words) (now declared) (Instance name params source count at) ⌝ }
-    ensures { λ r. ⌜ Judging (now (file .entry)) (Instance name params source count at) (store (now (names .entry)) (now (facts .entry)) (now (contexts .entry)) (now (orders .entry)) (now (heads .entry))) (store (now (names .exit)) (now (facts .exit)) (now (contexts .exit)) (now (orders .exit)) (now (heads .exit))) c phase r (now (refs .entry)) (now (refs .exit)) (now (words .entry)) (now (words .exit)) (now (declared .entry)) (now (declared .entry)) ⌝ }
+    requires { ⌜ Underway (now file) (held (now store)) c phase (now refs) (now words) (InstanceParts (f .name) (f .params) (f .source) (f .count) (f .at)) ⌝ }
+    ensures { λ r. ⌜ Judging (now (file .entry)) (InstanceParts (f .name) (f .params) (f .source) (f .count) (f .at)) (held (now (store .entry))) (held (now (store .exit))) c phase r (now (refs .entry)) (now (refs .exit)) (now (words .entry)) (now (words .exit)) ⌝ }
 {
-    let cause = instance_cause(
-        file,
-        names,
-        facts,
-        contexts,
-        orders,
-        heads,
-        refs,
-        phase,
-        c,
-        name,
-        params,
-        source,
-        count,
-        at,
-    );
+    let cause = instance_cause(file, store, refs, phase, c, f);
     if cause != 0 {
         return refused(cause, phase, c);
     }
-    let q = find_module(heads, c.modules, source);
-    lawful_field(
-        file,
-        names,
-        facts,
-        contexts,
-        orders,
-        heads,
-        refs,
-        words,
-        declared,
-        phase,
-        c,
-        name,
-        params,
-        q,
-        count,
-        at,
-    )
+    let q = find_module(store, c.modules, f.source);
+    lawful_field(file, store, refs, words, phase, c, f, q)
 }

@@ -2,10 +2,10 @@
 use borrow.Author.Tests.{le-leb, le-ltb, lt-leb, lt-ltb, ne-eqb}
 use mathlib.Core.Bool.{Bool, _||_, cond, false, true}
 use mathlib.Core.List.{List, [], _∷_}
-use mathlib.Core.Option.{Option, none, some}
+use mathlib.Core.Option.{none, some}
 use mathlib.Core.Path.{_∙_, _≡_, ap, ap₂, refl, subst, sym}
 use lib.Dec.{eqb, leb, ltb}
-use lib.ListN.{getElem?, length, set}
+use lib.ListN.{getElem?, length}
 use native.Mathlib.Decide.{decLt, ℕ-discrete}
 use native.Mathlib.Omega.{arith}
 use Prim.Native.Nat.{_+_, _<_, _≤_, suc, zero, ℕ}
@@ -15,7 +15,8 @@ use Rattle.context.proofs.Lookups.{module-law}
 use Rattle.context.specs.Holds.{Holds}
 use Rattle.context.specs.Lookup.{codeNamed}
 use Rattle.context.specs.Parts.{part, placeOf}
-use Rattle.context.specs.Store.{Store, afterDeclaration, afterEnd, afterField, begun, codesOf, contextSlot, declarationRow, declaring, fieldCode, headed, longer, store, stored, variableKind, withCode}
+use Rattle.context.specs.Entries.{afterDeclaration, afterEnd, afterField, begun, codesOf, declaring, variableKind}
+use Rattle.store.specs.Store.{Store}
 use Rattle.context.specs.declared.Counts.{Counts}
 use Rattle.judge_plain.proofs.Answers.{declaration-small}
 use Rattle.judge_plain.specs.Causes.{answer, declarationCause, early, endCause, judged, kept, moduleCause}
@@ -106,9 +107,9 @@ lawful : (w : ℕ) (p q : Phase) (c d : Counts) (r : Judged) → r ≡ answer w 
 unfolding answer
 lawful w p q c d r e z = e ∙ rw z refl
 
-changed : (w : ℕ) (xs before after : List ℕ) → xs ≡ kept w before after → w ≡ 0 → xs ≡ after
+changed : (w : ℕ) (now before after : Store) → now ≡ kept w before after → w ≡ 0 → now ≡ after
 unfolding kept
-changed w xs before after e z = e ∙ rw z refl
+changed w now before after e z = e ∙ rw z refl
 
 -- a field judged: where no cause holds, the store is the one after it
 pub judges : (w : ℕ) (p q : Phase) (c d : Counts) (r : Judged) (s : State) (f : Field) (u : Store) → r ≡ answer w p c q d → w ≡ causeNumber (judge s f)
@@ -140,7 +141,7 @@ module _ (v : Store) (c : Counts) (s : State) (holds : Holds v c s) (p : Phase) 
   end-cause-law = rw (order-law p s phase end-module) (sym (number-first (outOfOrder (s .phase) end-module) 4 []))
 
   declared-law : (f : Field) (k n : ℕ) (b : Bool) → b ≡ ltb maxArity k
-      → declarationCause p c (v .names) (v .contexts) (v .heads) (tag f) k n
+      → declarationCause p c v (tag f) k n
       ≡ causeNumber (firstCause ((4, outOfOrder (s .phase) f) ∷ (5, ltb maxDeclarations (s .declarations + 1) || b) ∷ (8, inContext n (here s)) ∷ []))
   unfolding declarationCause
   declared-law f k n b e =
@@ -149,10 +150,10 @@ module _ (v : Store) (c : Counts) (s : State) (holds : Holds v c s) (p : Phase) 
       (order-law p s phase f)
       (ap₂ _||_ (over-law maxDeclarations (c .declarations) ∙ ap (λ (m : ℕ). ltb maxDeclarations (m + 1)) (holds .declarations)) (sym e)) (here-law v c s holds n)
 
-  pub constant-cause-law : (n k : ℕ) → declarationCause p c (v .names) (v .contexts) (v .heads) 3 k n ≡ causeNumber (judge s (declare-constant n k))
+  pub constant-cause-law : (n k : ℕ) → declarationCause p c v 3 k n ≡ causeNumber (judge s (declare-constant n k))
   constant-cause-law n k = declared-law (declare-constant n k) k n (overArity k) refl
 
-  pub variable-cause-law : (n : ℕ) → declarationCause p c (v .names) (v .contexts) (v .heads) 4 0 n ≡ causeNumber (judge s (declare-variable n))
+  pub variable-cause-law : (n : ℕ) → declarationCause p c v 4 0 n ≡ causeNumber (judge s (declare-variable n))
   variable-cause-law n =
       declared-law (declare-variable n) 0 n false refl
       ∙ ap (λ (b : Bool). causeNumber (firstCause ((4, outOfOrder (s .phase) (declare-variable n)) ∷ (5, b) ∷ (8, inContext n (here s)) ∷ []))) (or-none (ltb maxDeclarations (s .declarations + 1)))
@@ -169,51 +170,33 @@ module _ (v : Store) (c : Counts) (s : State) (holds : Holds v c s) (p : Phase) 
 
   -- what the functions leave
   module _ (room : c .fields < maxFields) (r : Judged) where
-    pub module-field-law : (n : ℕ) (heads : List ℕ) → r ≡ answer (moduleCause p (c .modules) (v .heads) n) p c Begun (afterField c)
-        → heads ≡ kept (moduleCause p (c .modules) (v .heads) n) (v .heads) (headed (v .heads) (c .modules) n)
-        → Judges (store (v .names) (v .facts) (v .contexts) (v .orders) heads) r s (begin-module n)
-    module-field-law n heads e h =
+    pub module-field-law : (n : ℕ) (v′ : Store) → r ≡ answer (moduleCause p (c .modules) (v .heads) n) p c Begun (afterField c)
+        → v′ ≡ kept (moduleCause p (c .modules) (v .heads) n) v (begun v (c .modules) n) → Judges v′ r s (begin-module n)
+    module-field-law n v′ e h =
         let w = moduleCause p (c .modules) (v .heads) n in
-        judges w p Begun c (afterField c) r s (begin-module n) _ e (module-cause-law n)
-        (λ z. hold-store (begun v (c .modules) n) (afterField c) (afterField c) (add s (begin-module n)) (v .names) (v .facts) (v .contexts) (v .orders) heads
-        (adds-module v c s holds room n) refl refl refl refl refl (changed w heads (v .heads) (headed (v .heads) (c .modules) n) h z)) refl
+        judges w p Begun c (afterField c) r s (begin-module n) v′ e (module-cause-law n)
+        (λ z. hold-store (begun v (c .modules) n) v′ (afterField c) (afterField c) (add s (begin-module n)) (adds-module v c s holds room n) refl
+        (changed w v′ v (begun v (c .modules) n) h z)) refl
 
-    pub end-field-law : Within s → (heads : List ℕ) → r ≡ answer (endCause p) p c Outside (afterEnd c)
-        → heads ≡ kept (endCause p) (v .heads) (headed (v .heads) (c .modules + 1) 0) → Judges (store (v .names) (v .facts) (v .contexts) (v .orders) heads) r s end-module
-    end-field-law within heads e h =
-        judges (endCause p) p Outside c (afterEnd c) r s end-module _ e end-cause-law
-        (λ z. hold-store (begun v (c .modules + 1) 0) (afterEnd c) (afterEnd c) (add s end-module) (v .names) (v .facts) (v .contexts) (v .orders) heads
-        (adds-end v c s holds room (end-room within z)) refl refl refl refl refl (changed (endCause p) heads (v .heads) (headed (v .heads) (c .modules + 1) 0) h z)) refl
+    pub end-field-law : Within s → (v′ : Store) → r ≡ answer (endCause p) p c Outside (afterEnd c) → v′ ≡ kept (endCause p) v (begun v (c .modules + 1) 0) → Judges v′ r s end-module
+    end-field-law within v′ e h =
+        judges (endCause p) p Outside c (afterEnd c) r s end-module v′ e end-cause-law
+        (λ z. hold-store (begun v (c .modules + 1) 0) v′ (afterEnd c) (afterEnd c) (add s end-module) (adds-end v c s holds room (end-room within z)) refl
+        (changed (endCause p) v′ v (begun v (c .modules + 1) 0) h z)) refl
 
-    module _ (tag k kind n : ℕ) (names facts contexts heads : List ℕ) (f : Field) (law : declarationCause p c (v .names) (v .contexts) (v .heads) tag k n ≡ causeNumber (judge s f))
-        (added : declarationCause p c (v .names) (v .contexts) (v .heads) tag k n ≡ 0 → Holds (declaring v c kind n) (afterDeclaration c) (add s f)) (later : phaseOf Inside ≡ add s f .phase) where
-      w : ℕ
-      w = declarationCause p c (v .names) (v .contexts) (v .heads) tag k n
+    declared-field : (tag k kind n : ℕ) (v′ : Store) (f : Field) → declarationCause p c v tag k n ≡ causeNumber (judge s f)
+        → (declarationCause p c v tag k n ≡ 0 → Holds (declaring v c kind n) (afterDeclaration c) (add s f)) → phaseOf Inside ≡ add s f .phase
+        → r ≡ answer (declarationCause p c v tag k n) p c Inside (afterDeclaration c) → v′ ≡ kept (declarationCause p c v tag k n) v (declaring v c kind n) → Judges v′ r s f
+    declared-field tag k kind n v′ f law added later e h =
+        let w = declarationCause p c v tag k n in
+        judges w p Inside c (afterDeclaration c) r s f v′ e law
+        (λ z. hold-store (declaring v c kind n) v′ (afterDeclaration c) (afterDeclaration c) (add s f) (added z) refl (changed w v′ v (declaring v c kind n) h z)) later
 
-      declared-field : r ≡ answer w p c Inside (afterDeclaration c) → names ≡ kept w (v .names) (set (v .names) (fieldCode (c .fields)) n)
-          → facts ≡ kept w (v .facts) (stored (v .facts) (fieldCode (c .fields)) (declarationRow kind (c .declarations)))
-          → contexts ≡ kept w (v .contexts) (withCode (v .contexts) (v .heads) (c .modules) (fieldCode (c .fields)))
-          → heads ≡ kept w (v .heads) (longer (v .heads) (contextSlot (c .modules))) → Judges (store names facts contexts (v .orders) heads) r s f
-      unfolding w
-      declared-field e a b d h =
-          judges w p Inside c (afterDeclaration c) r s f _ e law
-          (λ z. hold-store (declaring v c kind n) (afterDeclaration c) (afterDeclaration c) (add s f) names facts contexts (v .orders) heads (added z) refl
-          (changed w names (v .names) _ a z) (changed w facts (v .facts) _ b z) (changed w contexts (v .contexts) _ d z) refl (changed w heads (v .heads) _ h z)) later
+    pub constant-field-law : (n k : ℕ) (v′ : Store) → r ≡ answer (declarationCause p c v 3 k n) p c Inside (afterDeclaration c)
+        → v′ ≡ kept (declarationCause p c v 3 k n) v (declaring v c k n) → Judges v′ r s (declare-constant n k)
+    constant-field-law n k v′ =
+        declared-field 3 k k n v′ (declare-constant n k) (constant-cause-law n k) (λ z. adds-constant v c s holds room n k (omega (arith, declaration-small p c v 3 k n z))) refl
 
-    pub constant-field-law : (n k : ℕ) → (names facts contexts heads : List ℕ) → r ≡ answer (declarationCause p c (v .names) (v .contexts) (v .heads) 3 k n) p c Inside (afterDeclaration c)
-        → names ≡ kept (declarationCause p c (v .names) (v .contexts) (v .heads) 3 k n) (v .names) (set (v .names) (fieldCode (c .fields)) n)
-        → facts ≡ kept (declarationCause p c (v .names) (v .contexts) (v .heads) 3 k n) (v .facts) (stored (v .facts) (fieldCode (c .fields)) (declarationRow k (c .declarations)))
-        → contexts ≡ kept (declarationCause p c (v .names) (v .contexts) (v .heads) 3 k n) (v .contexts) (withCode (v .contexts) (v .heads) (c .modules) (fieldCode (c .fields)))
-        → heads ≡ kept (declarationCause p c (v .names) (v .contexts) (v .heads) 3 k n) (v .heads) (longer (v .heads) (contextSlot (c .modules))) → Judges (store names facts contexts (v .orders) heads) r s (declare-constant n k)
-    unfolding w
-    constant-field-law n k names facts contexts heads =
-        declared-field 3 k k n names facts contexts heads (declare-constant n k) (constant-cause-law n k) (λ z. adds-constant v c s holds room n k (omega (arith, declaration-small p c (v .names) (v .contexts) (v .heads) 3 k n z))) refl
-
-    pub variable-field-law : (n : ℕ) → (names facts contexts heads : List ℕ) → r ≡ answer (declarationCause p c (v .names) (v .contexts) (v .heads) 4 0 n) p c Inside (afterDeclaration c)
-        → names ≡ kept (declarationCause p c (v .names) (v .contexts) (v .heads) 4 0 n) (v .names) (set (v .names) (fieldCode (c .fields)) n)
-        → facts ≡ kept (declarationCause p c (v .names) (v .contexts) (v .heads) 4 0 n) (v .facts) (stored (v .facts) (fieldCode (c .fields)) (declarationRow variableKind (c .declarations)))
-        → contexts ≡ kept (declarationCause p c (v .names) (v .contexts) (v .heads) 4 0 n) (v .contexts) (withCode (v .contexts) (v .heads) (c .modules) (fieldCode (c .fields)))
-        → heads ≡ kept (declarationCause p c (v .names) (v .contexts) (v .heads) 4 0 n) (v .heads) (longer (v .heads) (contextSlot (c .modules))) → Judges (store names facts contexts (v .orders) heads) r s (declare-variable n)
-    unfolding w
-    variable-field-law n names facts contexts heads =
-        declared-field 4 0 variableKind n names facts contexts heads (declare-variable n) (variable-cause-law n) (λ z. adds-variable v c s holds room n) refl
+    pub variable-field-law : (n : ℕ) (v′ : Store) → r ≡ answer (declarationCause p c v 4 0 n) p c Inside (afterDeclaration c)
+        → v′ ≡ kept (declarationCause p c v 4 0 n) v (declaring v c variableKind n) → Judges v′ r s (declare-variable n)
+    variable-field-law n v′ = declared-field 4 0 variableKind n v′ (declare-variable n) (variable-cause-law n) (λ z. adds-variable v c s holds room n) refl

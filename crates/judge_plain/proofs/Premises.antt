@@ -8,7 +8,7 @@ use lib.ListN.{List·getD-append, length}
 use native.Mathlib.Omega.{arith}
 use Prim.Native.Nat.{_<_, ℕ}
 use Rattle.context.specs.Holds.{Holds, moduleNo}
-use Rattle.context.specs.Store.{Store, store}
+use Rattle.store.specs.Store.{Store}
 use Rattle.context.specs.declared.Counts.{Counts}
 use Rattle.judge_plain.specs.Extending.{Listed, Ready, is-ready}
 use Rattle.judge_plain.specs.Judges.{causeNumber, phaseOf}
@@ -55,10 +55,9 @@ good-listed v c s holds good q h =
     subst (λ (n : ℕ). All (λ g. g < n) (moduleNo s q .definitions)) (sym (holds .definitions)) (known .1)
 
 -- so an EXTENDS field may be judged
-pub ready : (names facts contexts orders heads : List ℕ) (p : Phase) (c : Counts) (s : State) → Holds (store names facts contexts orders heads) c s → phaseOf p ≡ s .phase → Good s → Fresh s
-    → Ready names contexts orders heads p c
-ready names facts contexts orders heads p c s holds phase good fresh =
-    is-ready facts s holds (good-listed (store names facts contexts orders heads) c s holds good)
+pub ready : (v : Store) (p : Phase) (c : Counts) (s : State) → Holds v c s → phaseOf p ≡ s .phase → Good s → Fresh s → Ready v p c
+ready v p c s holds phase good fresh =
+    is-ready s holds (good-listed v c s holds good)
     (λ (e : p ≡ Begun). let q : s .phase ≡ begun = sym phase ∙ ap phaseOf e in subst (λ x. EmptyIn x (s .current)) q fresh)
 
 -- an answer of 0 is no cause: every cause has a number above 0

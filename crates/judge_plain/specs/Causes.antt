@@ -1,4 +1,4 @@
--- What the judging functions answer, over the arrays: the first cause that holds, by its number, or 0.
+-- What the judging functions answer, over the store: the first cause that holds, by its number, or 0.
 use mathlib.Core.Bool.{Bool, _||_, cond, not}
 use mathlib.Core.List.{List}
 use Prim.Native.Nat.{ℕ}
@@ -7,8 +7,9 @@ use Rattle.limits.specs.Limits.{maxArity, maxDeclarations, maxModules}
 use Rattle.theory.specs.Lists.{isSome}
 use Rattle.context.specs.Lookup.{codeNamed}
 use Rattle.context.specs.Parts.{part, placeOf}
-use Rattle.context.specs.Store.{afterField, contextCodes}
+use Rattle.context.specs.Entries.{afterField, codesOf}
 use Rattle.context.specs.declared.Counts.{Counts}
+use Rattle.store.specs.Store.{Store}
 use Rattle.judge_plain.specs.declared.Judged.{Judged}
 use Rattle.judge_plain.specs.declared.Phase.{Phase}
 use Rattle.judge_plain.specs.declared.Phase.the-variants.{Begun, Inside, Outside}
@@ -29,11 +30,11 @@ unfoldable pub endCause : Phase → ℕ
 endCause p = cond (early p 7) 4 0
 
 -- 4, 5, 8
-unfoldable pub declarationCause : Phase → Counts → List ℕ → List ℕ → List ℕ → ℕ → ℕ → ℕ → ℕ
-declarationCause p c names contexts heads tag arity name =
+unfoldable pub declarationCause : Phase → Counts → Store → ℕ → ℕ → ℕ → ℕ
+declarationCause p c v tag arity name =
     cond (early p tag) 4
     (cond (leb maxDeclarations (c .declarations)) 5
-    (cond (ltb maxArity arity) 5 (cond (isSome (codeNamed names name (contextCodes contexts heads (c .modules)))) 8 0)))
+    (cond (ltb maxArity arity) 5 (cond (isSome (codeNamed (v .names) name (codesOf v (c .modules)))) 8 0)))
 
 abbrev pub judged : ℕ → Phase → Counts → Judged
 judged cause p c = record { cause = cause; phase = p; counts = c }
@@ -50,6 +51,6 @@ answer cause p c q d = cond (eqb cause 0) (judged 0 q d) (judged cause p c)
 unfoldable pub joinedAnswer : Bool → Phase → Counts → Judged
 joinedAnswer twice p c = cond twice (refusal 8 p c) (judged 0 Inside (afterField c))
 
--- an array changes by a lawful field only
-unfoldable pub kept : ℕ → List ℕ → List ℕ → List ℕ
+-- the store changes by a lawful field only
+unfoldable pub kept : ℕ → Store → Store → Store
 kept cause before after = cond (eqb cause 0) after before

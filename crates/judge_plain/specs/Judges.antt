@@ -8,7 +8,7 @@ use Rattle.rules.specs.Judge.{judge}
 use Rattle.rules.specs.State.{State, begun, inside, outside}
 use Rattle.rules.specs.State as rules
 use Rattle.context.specs.Holds.{Holds}
-use Rattle.context.specs.Store.{Store}
+use Rattle.store.specs.Store.{Store}
 use Rattle.judge_plain.specs.declared.Judged.{Judged}
 use Rattle.judge_plain.specs.declared.Phase.{Phase}
 use Rattle.judge_plain.specs.declared.Phase.the-variants.{Begun, Inside, Outside}
@@ -24,7 +24,7 @@ abbrev pub causeNumber : Option ℕ → ℕ
 causeNumber none = 0
 causeNumber (some c) = c
 
--- The answer is the rules' first cause of the field; and if none holds, the arrays show the state with the field added.
+-- The answer is the rules' first cause of the field; and if none holds, the store shows the state with the field added.
 pub record Judges (v : Store) (r : Judged) (s : State) (f : Field) : Type 0 where
   pub cause : r .cause ≡ causeNumber (judge s f)
   pub holds : r .cause ≡ 0 → Holds v (r .counts) (add s f)

@@ -1,10 +1,11 @@
 // CONSTANT and VARIABLE fields.
 ghost use mathlib.Core.Path.{_≡_};
 ghost use Prim.Native.Nat.{_≤_, _<_};
-ghost use lib.ListN.{getD, length, set};
+ghost use lib.ListN.{getD};
 ghost use Rattle.limits.specs.Limits.{maxModules};
-ghost use Rattle.limits.specs.Sizes.{codeCount, contextLength, contextsLength, factsLength, headsLength, maxFields};
-ghost use Rattle.context.specs.Store.{afterDeclaration, contextSlot, declarationRow, fieldCode, longer, stored, variableKind, withCode};
+ghost use Rattle.limits.specs.Sizes.{contextLength, maxFields};
+ghost use Rattle.context.specs.Entries.{afterDeclaration, declaring, variableKind};
+ghost use Rattle.store.specs.Store.{contextSlot, held};
 ghost use Rattle.judge_plain.specs.declared.Phase.the-variants.{Inside};
 ghost use Rattle.judge_plain.specs.Causes.{answer, declarationCause, kept};
 use crate::Judged;
@@ -17,12 +18,11 @@ use context::Kinds;
 use context::adding::add_declaration;
 use context::lookup::find_entry;
 use limits::Limits;
+use store::Store;
 
 // The first cause of a field of that tag which declares a name with so many arguments.
 pub fn declaration_cause(
-    names: &[u16],
-    contexts: &[u16],
-    heads: &[u16],
+    store: &[u16; Store::LENGTH],
     phase: Phase,
     c: Counts,
     tag: u8,
@@ -30,7 +30,7 @@ pub fn declaration_cause(
     name: u16,
 ) -> u8
     requires { ⌜ c .modules ≤ maxModules ⌝ }
-    ensures { λ r. ⌜ r ≡ declarationCause phase c (now (names .entry)) (now (contexts .entry)) (now (heads .entry)) tag arity name ⌝ }
+    ensures { λ r. ⌜ r ≡ declarationCause phase c (held (now (store .entry))) tag arity name ⌝ }
 {
     if out_of_order(phase, tag) {
         return 4;
@@ -41,7 +41,7 @@ pub fn declaration_cause(
     if Limits::ARITY < arity as usize {
         return 5;
     }
-    match find_entry(names, contexts, heads, c.modules, name) {
+    match find_entry(store, c.modules, name) {
         Code::At(_) => 8,
         Code::Absent => 0,
     }
@@ -49,10 +49,7 @@ pub fn declaration_cause(
 
 // Judges a field of that tag which declares a name with so many arguments, and adds it, of the kind given, if no cause holds.
 pub fn declare(
-    names: &mut [u16],
-    facts: &mut [u16],
-    contexts: &mut [u16],
-    heads: &mut [u16],
+    store: &mut [u16; Store::LENGTH],
     phase: Phase,
     c: Counts,
     tag: u8,
@@ -60,14 +57,14 @@ pub fn declare(
     kind: u16,
     name: u16,
 ) -> Judged
-    requires { ⌜ (length (now names) ≡ codeCount) × (length (now facts) ≡ factsLength) × (length (now contexts) ≡ contextsLength) × (length (now heads) ≡ headsLength) × (c .modules ≤ maxModules) × (c .fields < maxFields) × (getD (now heads) (contextSlot (c .modules)) 0 < contextLength) ⌝ }
-    ensures { λ r. ⌜ (r ≡ answer (declarationCause phase c (now (names .entry)) (now (contexts .entry)) (now (heads .entry)) tag arity name) phase c Inside (afterDeclaration c)) × (now (names .exit) ≡ kept (declarationCause phase c (now (names .entry)) (now (contexts .entry)) (now (heads .entry)) tag arity name) (now (names .entry)) (set (now (names .entry)) (fieldCode (c .fields)) name)) × (now (facts .exit) ≡ kept (declarationCause phase c (now (names .entry)) (now (contexts .entry)) (now (heads .entry)) tag arity name) (now (facts .entry)) (stored (now (facts .entry)) (fieldCode (c .fields)) (declarationRow kind (c .declarations)))) × (now (contexts .exit) ≡ kept (declarationCause phase c (now (names .entry)) (now (contexts .entry)) (now (heads .entry)) tag arity name) (now (contexts .entry)) (withCode (now (contexts .entry)) (now (heads .entry)) (c .modules) (fieldCode (c .fields)))) × (now (heads .exit) ≡ kept (declarationCause phase c (now (names .entry)) (now (contexts .entry)) (now (heads .entry)) tag arity name) (now (heads .entry)) (longer (now (heads .entry)) (contextSlot (c .modules)))) ⌝ }
+    requires { ⌜ (c .modules ≤ maxModules) × (c .fields < maxFields) × (getD (held (now store) .heads) (contextSlot (c .modules)) 0 < contextLength) ⌝ }
+    ensures { λ r. ⌜ (r ≡ answer (declarationCause phase c (held (now (store .entry))) tag arity name) phase c Inside (afterDeclaration c)) × (held (now (store .exit)) ≡ kept (declarationCause phase c (held (now (store .entry))) tag arity name) (held (now (store .entry))) (declaring (held (now (store .entry))) c kind name)) ⌝ }
 {
-    let cause = declaration_cause(names, contexts, heads, phase, c, tag, arity, name);
+    let cause = declaration_cause(store, phase, c, tag, arity, name);
     if cause != 0 {
         return refused(cause, phase, c);
     }
-    let counts = add_declaration(names, facts, contexts, heads, c, kind, name);
+    let counts = add_declaration(store, c, kind, name);
     Judged {
         cause: 0,
         phase: Phase::Inside,
@@ -77,55 +74,27 @@ pub fn declare(
 
 // Judges a CONSTANT field, and adds it if no cause holds.
 pub fn constant_field(
-    names: &mut [u16],
-    facts: &mut [u16],
-    contexts: &mut [u16],
-    heads: &mut [u16],
+    store: &mut [u16; Store::LENGTH],
     phase: Phase,
     c: Counts,
     arity: u16,
     name: u16,
 ) -> Judged
-    requires { ⌜ (length (now names) ≡ codeCount) × (length (now facts) ≡ factsLength) × (length (now contexts) ≡ contextsLength) × (length (now heads) ≡ headsLength) × (c .modules ≤ maxModules) × (c .fields < maxFields) × (getD (now heads) (contextSlot (c .modules)) 0 < contextLength) ⌝ }
-    ensures { λ r. ⌜ (r ≡ answer (declarationCause phase c (now (names .entry)) (now (contexts .entry)) (now (heads .entry)) 3 arity name) phase c Inside (afterDeclaration c)) × (now (names .exit) ≡ kept (declarationCause phase c (now (names .entry)) (now (contexts .entry)) (now (heads .entry)) 3 arity name) (now (names .entry)) (set (now (names .entry)) (fieldCode (c .fields)) name)) × (now (facts .exit) ≡ kept (declarationCause phase c (now (names .entry)) (now (contexts .entry)) (now (heads .entry)) 3 arity name) (now (facts .entry)) (stored (now (facts .entry)) (fieldCode (c .fields)) (declarationRow arity (c .declarations)))) × (now (contexts .exit) ≡ kept (declarationCause phase c (now (names .entry)) (now (contexts .entry)) (now (heads .entry)) 3 arity name) (now (contexts .entry)) (withCode (now (contexts .entry)) (now (heads .entry)) (c .modules) (fieldCode (c .fields)))) × (now (heads .exit) ≡ kept (declarationCause phase c (now (names .entry)) (now (contexts .entry)) (now (heads .entry)) 3 arity name) (now (heads .entry)) (longer (now (heads .entry)) (contextSlot (c .modules)))) ⌝ }
+    requires { ⌜ (c .modules ≤ maxModules) × (c .fields < maxFields) × (getD (held (now store) .heads) (contextSlot (c .modules)) 0 < contextLength) ⌝ }
+    ensures { λ r. ⌜ (r ≡ answer (declarationCause phase c (held (now (store .entry))) 3 arity name) phase c Inside (afterDeclaration c)) × (held (now (store .exit)) ≡ kept (declarationCause phase c (held (now (store .entry))) 3 arity name) (held (now (store .entry))) (declaring (held (now (store .entry))) c arity name)) ⌝ }
 {
-    declare(
-        names,
-        facts,
-        contexts,
-        heads,
-        phase,
-        c,
-        3,
-        arity,
-        arity,
-        name,
-    )
+    declare(store, phase, c, 3, arity, arity, name)
 }
 
 // Judges a VARIABLE field, and adds it if no cause holds.
 pub fn variable_field(
-    names: &mut [u16],
-    facts: &mut [u16],
-    contexts: &mut [u16],
-    heads: &mut [u16],
+    store: &mut [u16; Store::LENGTH],
     phase: Phase,
     c: Counts,
     name: u16,
 ) -> Judged
-    requires { ⌜ (length (now names) ≡ codeCount) × (length (now facts) ≡ factsLength) × (length (now contexts) ≡ contextsLength) × (length (now heads) ≡ headsLength) × (c .modules ≤ maxModules) × (c .fields < maxFields) × (getD (now heads) (contextSlot (c .modules)) 0 < contextLength) ⌝ }
-    ensures { λ r. ⌜ (r ≡ answer (declarationCause phase c (now (names .entry)) (now (contexts .entry)) (now (heads .entry)) 4 0 name) phase c Inside (afterDeclaration c)) × (now (names .exit) ≡ kept (declarationCause phase c (now (names .entry)) (now (contexts .entry)) (now (heads .entry)) 4 0 name) (now (names .entry)) (set (now (names .entry)) (fieldCode (c .fields)) name)) × (now (facts .exit) ≡ kept (declarationCause phase c (now (names .entry)) (now (contexts .entry)) (now (heads .entry)) 4 0 name) (now (facts .entry)) (stored (now (facts .entry)) (fieldCode (c .fields)) (declarationRow variableKind (c .declarations)))) × (now (contexts .exit) ≡ kept (declarationCause phase c (now (names .entry)) (now (contexts .entry)) (now (heads .entry)) 4 0 name) (now (contexts .entry)) (withCode (now (contexts .entry)) (now (heads .entry)) (c .modules) (fieldCode (c .fields)))) × (now (heads .exit) ≡ kept (declarationCause phase c (now (names .entry)) (now (contexts .entry)) (now (heads .entry)) 4 0 name) (now (heads .entry)) (longer (now (heads .entry)) (contextSlot (c .modules)))) ⌝ }
+    requires { ⌜ (c .modules ≤ maxModules) × (c .fields < maxFields) × (getD (held (now store) .heads) (contextSlot (c .modules)) 0 < contextLength) ⌝ }
+    ensures { λ r. ⌜ (r ≡ answer (declarationCause phase c (held (now (store .entry))) 4 0 name) phase c Inside (afterDeclaration c)) × (held (now (store .exit)) ≡ kept (declarationCause phase c (held (now (store .entry))) 4 0 name) (held (now (store .entry))) (declaring (held (now (store .entry))) c variableKind name)) ⌝ }
 {
-    declare(
-        names,
-        facts,
-        contexts,
-        heads,
-        phase,
-        c,
-        4,
-        0,
-        Kinds::VARIABLE,
-        name,
-    )
+    declare(store, phase, c, 4, 0, Kinds::VARIABLE, name)
 }

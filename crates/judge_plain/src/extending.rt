@@ -7,10 +7,12 @@ ghost use Rattle.limits.specs.Sizes.{codeCount, maxFields};
 ghost use Rattle.tokens.specs.Token.{numberAt};
 ghost use Rattle.agree.specs.Parts.{namesAt};
 ghost use Rattle.context.specs.Lookup.{repeatedIn};
-ghost use Rattle.context.specs.Store.{contextCodes};
+ghost use Rattle.context.specs.Entries.{codesOf};
+ghost use Rattle.store.specs.Store.{held};
 ghost use Rattle.judge_plain.specs.Causes.{joinedAnswer};
 ghost use Rattle.judge_plain.specs.Extending.{Extending, Joinable, Joined, Ready, Startable, extendsCause, missingIn};
 use crate::Judged;
+use crate::NameList;
 use crate::Phase;
 use crate::out_of_order;
 use crate::refused;
@@ -20,17 +22,24 @@ use context::extending::extend;
 use context::lookup::find_module;
 use context::lookup::has_repeated_name;
 use limits::Limits;
+use store::Lent;
+use store::Store;
 use tokens::number_at;
 
-// Cause 7: one of count names from a position on is not that of a module ended.
-pub fn has_missing_name(file: &[u8], at: usize, count: usize, heads: &[u16], modules: usize) -> bool
-    requires { ⌜ at + 2 * count ≤ fileBytes ⌝ }
-    ensures { λ r. ⌜ r ≡ missingIn (now (heads .entry)) modules (namesAt (now (file .entry)) at count) ⌝ }
+// Cause 7: one of the names listed is not that of a module ended.
+pub fn has_missing_name(
+    file: &[u8],
+    list: NameList,
+    store: &[u16; Store::LENGTH],
+    modules: usize,
+) -> bool
+    requires { ⌜ list .at + 2 * list .count ≤ fileBytes ⌝ }
+    ensures { λ r. ⌜ r ≡ missingIn (held (now (store .entry)) .heads) modules (namesAt (now (file .entry)) (list .at) (list .count)) ⌝ }
 {
-    let mut pos = at;
-    let mut left = count;
+    let mut pos = list.at;
+    let mut left = list.count;
     while 0 < left {
-        if modules <= find_module(heads, modules, number_at(file, pos)) {
+        if modules <= find_module(store, modules, number_at(file, pos)) {
             return true;
         }
         pos += 2;
@@ -39,26 +48,23 @@ pub fn has_missing_name(file: &[u8], at: usize, count: usize, heads: &[u16], mod
     false
 }
 
-// Joins the modules of count names from a position on to the module that is open.
+// Joins the modules listed to the module that is open.
 pub fn join_named(
     file: &[u8],
-    at: usize,
-    count: usize,
-    contexts: &mut [u16],
-    orders: &mut [u16],
-    heads: &mut [u16],
+    list: NameList,
+    store: &mut [u16; Store::LENGTH],
     marks: &mut [u16],
     tally: &mut [u16],
     c: Counts,
 )
-    requires { ⌜ Joinable (now contexts) (now orders) (now heads) (now marks) (now tally) c (namesAt (now file) at count) × (at + 2 * count ≤ fileBytes) ⌝ }
-    ensures { λ r. ⌜ Joined (now (contexts .entry)) (now (orders .entry)) (now (heads .entry)) (now (contexts .exit)) (now (orders .exit)) (now (heads .exit)) c (namesAt (now (file .entry)) at count) ⌝ }
+    requires { ⌜ Joinable (held (now store)) (now marks) (now tally) c (namesAt (now file) (list .at) (list .count)) × (list .at + 2 * list .count ≤ fileBytes) ⌝ }
+    ensures { λ r. ⌜ Joined (held (now (store .entry))) (held (now (store .exit))) c (namesAt (now (file .entry)) (list .at) (list .count)) ⌝ }
 {
-    let mut pos = at;
-    let mut left = count;
+    let mut pos = list.at;
+    let mut left = list.count;
     while 0 < left {
-        let q = find_module(heads, c.modules, number_at(file, pos));
-        extend(contexts, orders, heads, marks, tally, c.modules, q);
+        let q = find_module(store, c.modules, number_at(file, pos));
+        extend(store, marks, tally, c.modules, q);
         pos += 2;
         left -= 1;
     }
@@ -67,47 +73,38 @@ pub fn join_named(
 // The same with the open module empty: marks and tally are cleared first.
 pub fn join_modules(
     file: &[u8],
-    at: usize,
-    count: usize,
-    contexts: &mut [u16],
-    orders: &mut [u16],
-    heads: &mut [u16],
+    list: NameList,
+    store: &mut [u16; Store::LENGTH],
     marks: &mut [u16],
     tally: &mut [u16],
     c: Counts,
 )
-    requires { ⌜ Startable (now contexts) (now orders) (now heads) c (namesAt (now file) at count) × (length (now marks) ≡ maxDefinitions + c .fields) × (length (now tally) ≡ c .definitions) × (at + 2 * count ≤ fileBytes) ⌝ }
-    ensures { λ r. ⌜ Joined (now (contexts .entry)) (now (orders .entry)) (now (heads .entry)) (now (contexts .exit)) (now (orders .exit)) (now (heads .exit)) c (namesAt (now (file .entry)) at count) ⌝ }
+    requires { ⌜ Startable (held (now store)) c (namesAt (now file) (list .at) (list .count)) × (length (now marks) ≡ maxDefinitions + c .fields) × (length (now tally) ≡ c .definitions) × (list .at + 2 * list .count ≤ fileBytes) ⌝ }
+    ensures { λ r. ⌜ Joined (held (now (store .entry))) (held (now (store .exit))) c (namesAt (now (file .entry)) (list .at) (list .count)) ⌝ }
 {
     clear(marks);
     clear(tally);
-    join_named(file, at, count, contexts, orders, heads, marks, tally, c);
+    join_named(file, list, store, marks, tally, c);
 }
 
 // The same with marks and tally as long as they may have to be.
 pub fn join_all(
     file: &[u8],
-    at: usize,
-    count: usize,
-    contexts: &mut [u16],
-    orders: &mut [u16],
-    heads: &mut [u16],
+    list: NameList,
+    store: &mut [u16; Store::LENGTH],
     marks: &mut [u16],
     tally: &mut [u16],
     c: Counts,
 )
-    requires { ⌜ Startable (now contexts) (now orders) (now heads) c (namesAt (now file) at count) × (length (now marks) ≡ codeCount) × (length (now tally) ≡ maxDefinitions) × (at + 2 * count ≤ fileBytes) × (c .fields < maxFields) × (c .definitions ≤ maxDefinitions) ⌝ }
-    ensures { λ r. ⌜ Joined (now (contexts .entry)) (now (orders .entry)) (now (heads .entry)) (now (contexts .exit)) (now (orders .exit)) (now (heads .exit)) c (namesAt (now (file .entry)) at count) ⌝ }
+    requires { ⌜ Startable (held (now store)) c (namesAt (now file) (list .at) (list .count)) × (length (now marks) ≡ codeCount) × (length (now tally) ≡ maxDefinitions) × (list .at + 2 * list .count ≤ fileBytes) × (c .fields < maxFields) × (c .definitions ≤ maxDefinitions) ⌝ }
+    ensures { λ r. ⌜ Joined (held (now (store .entry))) (held (now (store .exit))) c (namesAt (now (file .entry)) (list .at) (list .count)) ⌝ }
 {
     let codes = Limits::DEFINITIONS + c.fields;
     let numbers = c.definitions;
     join_modules(
         file,
-        at,
-        count,
-        contexts,
-        orders,
-        heads,
+        list,
+        store,
         &mut marks[..codes],
         &mut tally[..numbers],
         c,
@@ -115,17 +112,11 @@ pub fn join_all(
 }
 
 // Cause 8 of the module that is open, the modules named being joined to it; and then what is answered.
-pub fn joined_field(
-    names: &[u16],
-    contexts: &[u16],
-    heads: &[u16],
-    phase: Phase,
-    c: Counts,
-) -> Judged
+pub fn joined_field(store: &[u16; Store::LENGTH], phase: Phase, c: Counts) -> Judged
     requires { ⌜ (c .fields < maxFields) × (c .modules ≤ maxModules) ⌝ }
-    ensures { λ r. ⌜ r ≡ joinedAnswer (repeatedIn (now (names .entry)) (contextCodes (now (contexts .entry)) (now (heads .entry)) (c .modules))) phase c ⌝ }
+    ensures { λ r. ⌜ r ≡ joinedAnswer (repeatedIn (held (now (store .entry)) .names) (codesOf (held (now (store .entry))) (c .modules))) phase c ⌝ }
 {
-    if has_repeated_name(names, contexts, heads, c.modules) {
+    if has_repeated_name(store, c.modules) {
         return refused(8, phase, c);
     }
     Judged {
@@ -138,77 +129,54 @@ pub fn joined_field(
 // The first cause of an EXTENDS field, but for 8.
 pub fn extends_cause(
     file: &[u8],
-    at: usize,
-    count: usize,
-    heads: &[u16],
+    list: NameList,
+    store: &[u16; Store::LENGTH],
     phase: Phase,
     modules: usize,
 ) -> u8
-    requires { ⌜ at + 2 * count ≤ fileBytes ⌝ }
-    ensures { λ r. ⌜ r ≡ extendsCause phase modules (now (heads .entry)) (namesAt (now (file .entry)) at count) ⌝ }
+    requires { ⌜ list .at + 2 * list .count ≤ fileBytes ⌝ }
+    ensures { λ r. ⌜ r ≡ extendsCause phase modules (held (now (store .entry)) .heads) (namesAt (now (file .entry)) (list .at) (list .count)) ⌝ }
 {
     if out_of_order(phase, 2) {
         return 4;
     }
-    if has_missing_name(file, at, count, heads, modules) {
+    if has_missing_name(file, list, store, modules) {
         return 7;
     }
     0
 }
 
-// Joins the modules named, and then looks at cause 8.
+// Joins the modules listed, and then looks at cause 8.
 pub fn extend_open(
     file: &[u8],
-    at: usize,
-    count: usize,
-    names: &[u16],
-    contexts: &mut [u16],
-    orders: &mut [u16],
-    heads: &mut [u16],
-    marks: &mut [u16],
-    tally: &mut [u16],
+    list: NameList,
+    store: &mut [u16; Store::LENGTH],
     phase: Phase,
     c: Counts,
 ) -> Judged
-    requires { ⌜ Startable (now contexts) (now orders) (now heads) c (namesAt (now file) at count) × (length (now marks) ≡ codeCount) × (length (now tally) ≡ maxDefinitions) × (at + 2 * count ≤ fileBytes) × (c .fields < maxFields) × (c .modules ≤ maxModules) × (c .definitions ≤ maxDefinitions) ⌝ }
-    ensures { λ r. ⌜ Joined (now (contexts .entry)) (now (orders .entry)) (now (heads .entry)) (now (contexts .exit)) (now (orders .exit)) (now (heads .exit)) c (namesAt (now (file .entry)) at count) × (r ≡ joinedAnswer (repeatedIn (now (names .entry)) (contextCodes (now (contexts .exit)) (now (heads .exit)) (c .modules))) phase c) ⌝ }
+    requires { ⌜ Startable (held (now store)) c (namesAt (now file) (list .at) (list .count)) × (list .at + 2 * list .count ≤ fileBytes) × (c .fields < maxFields) × (c .modules ≤ maxModules) × (c .definitions ≤ maxDefinitions) ⌝ }
+    ensures { λ r. ⌜ Joined (held (now (store .entry))) (held (now (store .exit))) c (namesAt (now (file .entry)) (list .at) (list .count)) × (r ≡ joinedAnswer (repeatedIn (held (now (store .exit)) .names) (codesOf (held (now (store .exit))) (c .modules))) phase c) ⌝ }
 {
-    join_all(file, at, count, contexts, orders, heads, marks, tally, c);
-    joined_field(names, contexts, heads, phase, c)
+    let mut marks = [0u16; Lent::MARKS];
+    let mut tally = [0u16; Lent::TALLY];
+    join_all(file, list, store, &mut marks, &mut tally, c);
+    joined_field(store, phase, c)
 }
 
-// Judges an EXTENDS field of count names from a position on, and adds it if no cause holds. On cause 8 the modules are joined too.
+// Judges an EXTENDS field of the names listed, and adds it if no cause holds. On cause 8 the modules are joined too.
 pub fn extends_field(
     file: &[u8],
-    at: usize,
-    count: usize,
-    names: &[u16],
-    contexts: &mut [u16],
-    orders: &mut [u16],
-    heads: &mut [u16],
-    marks: &mut [u16],
-    tally: &mut [u16],
+    list: NameList,
+    store: &mut [u16; Store::LENGTH],
     phase: Phase,
     c: Counts,
 ) -> Judged
-    requires { ⌜ Ready (now names) (now contexts) (now orders) (now heads) phase c × (length (now marks) ≡ codeCount) × (length (now tally) ≡ maxDefinitions) × (1 ≤ count) × (at + 2 * count ≤ fileBytes) × (c .fields < maxFields) × (c .modules ≤ maxModules) × (c .definitions ≤ maxDefinitions) ⌝ }
-    ensures { λ r. ⌜ Extending (now (names .entry)) (now (contexts .entry)) (now (orders .entry)) (now (heads .entry)) (now (contexts .exit)) (now (orders .exit)) (now (heads .exit)) phase c r (numberAt (now (file .entry)) at) (namesAt (now (file .entry)) (at + 2) (count - 1)) ⌝ }
+    requires { ⌜ Ready (held (now store)) phase c × (1 ≤ list .count) × (list .at + 2 * list .count ≤ fileBytes) × (c .fields < maxFields) × (c .modules ≤ maxModules) × (c .definitions ≤ maxDefinitions) ⌝ }
+    ensures { λ r. ⌜ Extending (held (now (store .entry))) (held (now (store .exit))) phase c r (numberAt (now (file .entry)) (list .at)) (namesAt (now (file .entry)) (list .at + 2) (list .count - 1)) ⌝ }
 {
-    let cause = extends_cause(file, at, count, heads, phase, c.modules);
+    let cause = extends_cause(file, list, store, phase, c.modules);
     if cause != 0 {
         return refused(cause, phase, c);
     }
-    extend_open(
-        file,
-        at,
-        count,
-        names,
-        contexts,
-        orders,
-        heads,
-        marks,
-        tally,
-        phase,
-        c,
-    )
+    extend_open(file, list, store, phase, c)
 }

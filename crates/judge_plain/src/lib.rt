@@ -1,4 +1,4 @@
-// Fields without expressions: module, EXTENDS, CONSTANT, VARIABLE, end of module. Each is judged by the arrays of crate context, and
+// Fields without expressions: module, EXTENDS, CONSTANT, VARIABLE, end of module. Each is judged by the store, and
 // added if no cause holds. specs/Causes.antt says what is answered; proofs/ says what that means for the rules' state.
 pub mod declarations;
 pub mod extending;
@@ -20,6 +20,12 @@ pub struct Judged {
     pub cause: u8,
     pub phase: Phase,
     pub counts: Counts,
+}
+
+// The names that an EXTENDS field lists: so many from a position of the file on.
+pub struct NameList {
+    pub at: usize,
+    pub count: usize,
 }
 
 // Cause 4: a field of that tag is outside its order.

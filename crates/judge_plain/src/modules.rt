@@ -1,10 +1,10 @@
 // The module field and the end of a module.
 ghost use mathlib.Core.Path.{_≡_};
 ghost use Prim.Native.Nat.{_+_, _≤_, _<_};
-ghost use lib.ListN.{length};
 ghost use Rattle.limits.specs.Limits.{maxModules};
-ghost use Rattle.limits.specs.Sizes.{headsLength, maxFields};
-ghost use Rattle.context.specs.Store.{afterEnd, afterField, headed};
+ghost use Rattle.limits.specs.Sizes.{maxFields};
+ghost use Rattle.context.specs.Entries.{afterEnd, afterField, begun};
+ghost use Rattle.store.specs.Store.{held};
 ghost use Rattle.judge_plain.specs.declared.Phase.the-variants.{Begun, Outside};
 ghost use Rattle.judge_plain.specs.Causes.{answer, endCause, kept, moduleCause};
 use crate::Judged;
@@ -16,10 +16,11 @@ use context::adding::add_module;
 use context::adding::end_module;
 use context::lookup::find_module;
 use limits::Limits;
+use store::Store;
 
 // The first cause of a module field of that name.
-pub fn module_cause(heads: &[u16], phase: Phase, modules: usize, name: u16) -> u8
-    ensures { λ r. ⌜ r ≡ moduleCause phase modules (now (heads .entry)) name ⌝ }
+pub fn module_cause(store: &[u16; Store::LENGTH], phase: Phase, modules: usize, name: u16) -> u8
+    ensures { λ r. ⌜ r ≡ moduleCause phase modules (held (now (store .entry)) .heads) name ⌝ }
 {
     if out_of_order(phase, 1) {
         return 4;
@@ -27,7 +28,7 @@ pub fn module_cause(heads: &[u16], phase: Phase, modules: usize, name: u16) -> u
     if Limits::MODULES <= modules {
         return 5;
     }
-    if find_module(heads, modules, name) < modules {
+    if find_module(store, modules, name) < modules {
         return 6;
     }
     0
@@ -44,15 +45,15 @@ pub fn end_cause(phase: Phase) -> u8
 }
 
 // Judges a module field, and adds it if no cause holds.
-pub fn module_field(heads: &mut [u16], phase: Phase, c: Counts, name: u16) -> Judged
-    requires { ⌜ (length (now heads) ≡ headsLength) × (c .modules ≤ maxModules) × (c .fields < maxFields) ⌝ }
-    ensures { λ r. ⌜ (r ≡ answer (moduleCause phase (c .modules) (now (heads .entry)) name) phase c Begun (afterField c)) × (now (heads .exit) ≡ kept (moduleCause phase (c .modules) (now (heads .entry)) name) (now (heads .entry)) (headed (now (heads .entry)) (c .modules) name)) ⌝ }
+pub fn module_field(store: &mut [u16; Store::LENGTH], phase: Phase, c: Counts, name: u16) -> Judged
+    requires { ⌜ (c .modules ≤ maxModules) × (c .fields < maxFields) ⌝ }
+    ensures { λ r. ⌜ (r ≡ answer (moduleCause phase (c .modules) (held (now (store .entry)) .heads) name) phase c Begun (afterField c)) × (held (now (store .exit)) ≡ kept (moduleCause phase (c .modules) (held (now (store .entry)) .heads) name) (held (now (store .entry))) (begun (held (now (store .entry))) (c .modules) name)) ⌝ }
 {
-    let cause = module_cause(heads, phase, c.modules, name);
+    let cause = module_cause(store, phase, c.modules, name);
     if cause != 0 {
         return refused(cause, phase, c);
     }
-    let counts = add_module(heads, c, name);
+    let counts = add_module(store, c, name);
     Judged {
         cause: 0,
         phase: Phase::Begun,
@@ -61,15 +62,15 @@ pub fn module_field(heads: &mut [u16], phase: Phase, c: Counts, name: u16) -> Ju
 }
 
 // Judges an end of module, and adds it if no cause holds. In a module fewer than all modules are ended.
-pub fn end_field(heads: &mut [u16], phase: Phase, c: Counts) -> Judged
-    requires { ⌜ (length (now heads) ≡ headsLength) × (c .modules ≤ maxModules) × (c .fields < maxFields) × (endCause phase ≡ 0 → c .modules < maxModules) ⌝ }
-    ensures { λ r. ⌜ (r ≡ answer (endCause phase) phase c Outside (afterEnd c)) × (now (heads .exit) ≡ kept (endCause phase) (now (heads .entry)) (headed (now (heads .entry)) (c .modules + 1) 0)) ⌝ }
+pub fn end_field(store: &mut [u16; Store::LENGTH], phase: Phase, c: Counts) -> Judged
+    requires { ⌜ (c .modules ≤ maxModules) × (c .fields < maxFields) × (endCause phase ≡ 0 → c .modules < maxModules) ⌝ }
+    ensures { λ r. ⌜ (r ≡ answer (endCause phase) phase c Outside (afterEnd c)) × (held (now (store .exit)) ≡ kept (endCause phase) (held (now (store .entry))) (begun (held (now (store .entry))) (c .modules + 1) 0)) ⌝ }
 {
     let cause = end_cause(phase);
     if cause != 0 {
         return refused(cause, phase, c);
     }
-    let counts = end_module(heads, c);
+    let counts = end_module(store, c);
     Judged {
         cause: 0,
         phase: Phase::Outside,

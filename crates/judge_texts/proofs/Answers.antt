@@ -16,7 +16,8 @@ use Rattle.forms.specs.Forms.{formAt, stored as storedForm}
 use Rattle.forms.proofs.Tables.{load-same}
 use Rattle.context.proofs.Repeats.{code-none, code-some}
 use Rattle.context.specs.Lookup.{asCode, codeNamed}
-use Rattle.context.specs.Store.{Store, afterDefinitions, afterField, codesOf, contextCodes, contextSlot, orderSlot}
+use Rattle.context.specs.Entries.{afterDefinitions, afterField, codesOf, contextCodes}
+use Rattle.store.specs.Store.{Store, contextSlot, orderSlot}
 use Rattle.context.specs.declared.Code.{Code}
 use Rattle.context.specs.declared.Code.the-variants.{Absent, At}
 use Rattle.context.specs.declared.Counts.{Counts}
@@ -149,11 +150,11 @@ module _ (p : Phase) (c : Counts) (names contexts heads file : List ℕ) (name p
   define-few e = define-lawful e .0
 
 -- room for one definition more
-module _ (names facts contexts orders heads : List ℕ) (c : Counts) (roomy : Roomy names facts contexts orders heads c) (few : c .definitions < maxDefinitions) where
-  pub room-context : getD heads (contextSlot (c .modules)) 0 < contextLength
+module _ (v : Store) (c : Counts) (roomy : Roomy v c) (few : c .definitions < maxDefinitions) where
+  pub room-context : getD (v .heads) (contextSlot (c .modules)) 0 < contextLength
   room-context = omega (arith, roomy .context-room 1 (omega arith))
 
-  pub room-order : getD heads (orderSlot (c .modules)) 0 < maxDefinitions
+  pub room-order : getD (v .heads) (orderSlot (c .modules)) 0 < maxDefinitions
   room-order = omega (arith, roomy .order-room 1 (omega arith))
 
 pub judged-counts : (d d′ : Counts) → d′ ≡ d → judged 0 Inside d′ ≡ judged 0 Inside d

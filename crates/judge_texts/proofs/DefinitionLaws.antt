@@ -29,7 +29,9 @@ use Rattle.context.proofs.Adds.{adds-definition, hold-store}
 use Rattle.context.proofs.Judging.{here-law}
 use Rattle.context.specs.Holds.{Holds, Linked}
 use Rattle.context.specs.Lookup.{codeNamed}
-use Rattle.context.specs.Store.{Store, afterDefinitions, codesOf, defining, firstAt, linkAt, ownRow, sourceAt, stored}
+use Rattle.context.specs.Entries.{afterDefinitions, codesOf, defining, ownRow}
+use Rattle.store.specs.Store.{Store, firstAt, linkAt, sourceAt}
+use Rattle.store.specs.Updates.{stored}
 use Rattle.context.specs.declared.Counts.{Counts}
 use Rattle.levels.specs.Tables.{sceneOf}
 use Rattle.resolve.proofs.Numbers.{declarationsOf, declares-other}
@@ -46,8 +48,7 @@ use Rattle.judge_plain.specs.declared.Phase.the-variants.{Inside}
 use Rattle.standing.specs.Chained.{Chained, Own, Through}
 use Rattle.standing.specs.Grows.{Grows, RowsKept}
 use Rattle.standing.specs.Standing.{Advances, AtField, DeclaredCodes, Judging, Standing, itselves}
-use Rattle.standing.proofs.Advancing.{declarations-same, few-declared, grows, numbers-kept, room, stands-after}
-use Rattle.standing.proofs.Forms.{codes-kept}
+use Rattle.standing.proofs.Advancing.{declarations-same, few-declared, grows, numbers-kept, room, stands-after, still-codes}
 use Rattle.standing.proofs.Growth.{new-definition, rows-stored}
 use Rattle.standing.proofs.Links.{chained-kept, rows-counted}
 use Rattle.standing.proofs.Texts.{SameBelow, same-below, text-kept}
@@ -96,8 +97,8 @@ six-causes false false false false false true = refl
 six-causes false false false false false false = refl
 
 -- a definition field of the expression e, its text of l bytes at a position
-module _ (file : List ℕ) (fs : List Field) (s : State) (rs : List Row) (v : Store) (c : Counts) (p : Phase) (refs words declared : List ℕ)
-    (stands : Standing file fs s rs v c p refs words declared) (name params at l : ℕ) (e : Expression)
+module _ (file : List ℕ) (fs : List Field) (s : State) (rs : List Row) (v : Store) (c : Counts) (p : Phase) (refs words : List ℕ)
+    (stands : Standing file fs s rs v c p refs words) (name params at l : ℕ) (e : Expression)
     (field : AtField file s (Definition name params at l) (definition name params e)) (here-at : at + l ≡ field .end) (q : expression .read (part file at l) ≡ some e)
     (v′ : Store) (refs′ words′ : List ℕ) (r : Judged) where
   abbrev f : Field
@@ -159,7 +160,7 @@ module _ (file : List ℕ) (fs : List Field) (s : State) (rs : List Row) (v : St
 
     text-causes : textCause t ≡ causeNumber (judge s f)
     text-causes =
-        text-cause-law file fs s rs v c p refs words declared stands (field .bytes) (field .short) at l e inside q kept params small refs′ t x ∙ pass-law z
+        text-cause-law file fs s rs v c p refs words stands (field .bytes) (field .short) at l e inside q kept params small refs′ t x ∙ pass-law z
 
     -- nor 9, 10 and 12
     module _ (clear : textCause t ≡ 0) (st : Stored v v′ c name params at l) (kw : words′ ≡ storedForm words (c .definitions) (t .form))
@@ -168,21 +169,23 @@ module _ (file : List ℕ) (fs : List Field) (s : State) (rs : List Row) (v : St
       lawful = no-cause-left s f (sym text-causes ∙ clear)
 
       clean : (t .unknown ≡ false) × (t .miscounted ≡ false)
-      clean = text-clear file fs s rs v c p refs words declared stands (field .bytes) (field .short) at l e inside q kept params small refs′ t x clear
+      clean = text-clear file fs s rs v c p refs words stands (field .bytes) (field .short) at l e inside q kept params small refs′ t x clear
 
       holds′ : Holds v′ (afterDefinitions 1 c) (add s f)
       holds′ =
-          hold-store (defining v c name (ownRow (c .definitions) params (s .bytes + 6) (length (expression .write e)))) (afterDefinitions 1 c) (afterDefinitions 1 c) (add s f)
-          (v′ .names) (v′ .facts) (v′ .contexts) (v′ .orders) (v′ .heads)
-          (adds-definition v c s (stands .holds) (room file fs s rs v c p refs words declared stands (Definition name params at l) f field) few name params e) refl (st .names)
-          (st .facts ∙ ap₂ (λ (a b : ℕ). stored (v .facts) (c .definitions) (ownRow (c .definitions) params a b)) (sym begins) (sym size)) (st .contexts) (st .orders) (st .heads)
+          hold-store (defining v c name (ownRow (c .definitions) params (s .bytes + 6) (length (expression .write e)))) v′ (afterDefinitions 1 c) (afterDefinitions 1 c) (add s f)
+          (adds-definition v c s (stands .holds) (room file fs s rs v c p refs words stands (Definition name params at l) f field) few name params e) refl
+          (st ∙ ap₂ (λ (a b : ℕ). defining v c name (ownRow (c .definitions) params a b)) (sym begins) (sym size))
+
+      same-codes : v′ .declared ≡ v .declared
+      same-codes = ap (λ (w : Store). w .declared) st
 
       rows : RowsKept v c v′
       rows =
-          rows-stored v c v′ (c .definitions) name (ownRow (c .definitions) params at l) (new-definition c (c .definitions) (omega arith) few) (st .names) (st .facts)
+          rows-stored v c v′ (c .definitions) name (ownRow (c .definitions) params at l) (new-definition c (c .definitions) (omega arith) few) (ap (λ (w : Store). w .names) st) (ap (λ (w : Store). w .facts) st)
 
       grown : Grows v c v′ (afterDefinitions 1 c)
-      grown = grows file fs s rs v c p refs words declared stands (Definition name params at l) f field lawful v′ (afterDefinitions 1 c) Inside refs′ holds′ refl rows
+      grown = grows file fs s rs v c p refs words stands (Definition name params at l) f field lawful v′ (afterDefinitions 1 c) Inside refs′ holds′ refl rows
 
       more : declarationsOf (fs ++ (f ∷ [])) ≡ declarationsOf fs ++ []
       more = declarations-same fs f refl
@@ -195,12 +198,12 @@ module _ (file : List ℕ) (fs : List Field) (s : State) (rs : List Row) (v : St
           let n = stands .holds .definitions in
           shows-new s (add s f) (ownOne s name params e) params u refl refl (omega (arith, few)) words words′ (t .form) (stands .words-size)
           (kw ∙ ap (λ (g : ℕ). storedForm words g (t .form)) n) (subst (λ (g : ℕ). formAt words′ g ≡ t .form) n kf) (declarationsOf fs) (stands .forms)
-          (λ us h a. form-law file fs s rs v c p refs words declared stands (field .bytes) (field .short) at l e inside q kept params small refs′ t x (clean .0) (clean .1) us
+          (λ us h a. form-law file fs s rs v c p refs words stands (field .bytes) (field .short) at l e inside q kept params small refs′ t x (clean .0) (clean .1) us
           (h ∙ ap (λ (d : Added). d .params) (getD-at (s .definitions) (ownOne s name params e) [] noDefinition (length (s .definitions)) refl)) a)
 
       same : SameBelow (s .bytes) refs refs′
       same i h =
-          text-law file fs s rs v c p refs words declared stands (field .bytes) (field .short) at l e inside q kept params small refs′ t x .before i (omega (arith, begins))
+          text-law file fs s rs v c p refs words stands (field .bytes) (field .short) at l e inside q kept params small refs′ t x .before i (omega (arith, begins))
 
       -- the new definition is an own one, its text where the arrays say
       new-own : (D : ℕ) → c .definitions ≡ D → Own v′ file refs′ (declarationsOf fs ++ []) (add s f) (add s f .bytes) (getD (rowsAfter s rs f) D noRow) D
@@ -209,7 +212,7 @@ module _ (file : List ℕ) (fs : List Field) (s : State) (rs : List Row) (v : St
           let is : definitionAt (add s f) D ≡ ownOne s name params e = getD-at (s .definitions) (ownOne s name params e) [] noDefinition D there in
           let linked = subst (λ (m : Meaning). Linked D m (sourceAt (v′ .facts) D) (linkAt (v′ .facts) D)) (ap (λ (a : Added). a .meaning) is) (holds′ .linked D (omega arith)) in
           let first : firstAt (v′ .facts) D ≡ at = ap (λ (a : Added). a .bodyStart) (holds′ .described D (omega arith) ∙ is) ∙ begins in
-          let text = text-there file fs s rs v c p refs words declared stands (field .bytes) (field .short) at l e inside q kept params small refs′ t x (clean .0) (clean .1) in
+          let text = text-there file fs s rs v c p refs words stands (field .bytes) (field .short) at l e inside q kept params small refs′ t x (clean .0) (clean .1) in
           record {
             row = getD-at rs (ownWorld (length (s .definitions))) [] noRow D (rows-counted v c s rs (stands .holds) (stands .worlds) ∙ d) ∙ ap ownWorld there;
             unlinked = linked .1;
@@ -225,23 +228,24 @@ module _ (file : List ℕ) (fs : List Field) (s : State) (rs : List Row) (v : St
               ⊎ Through v′ (afterDefinitions 1 c) file refs′ (declarationsOf fs ++ []) (rowsAfter s rs f) (add s f .bytes) (getD (rowsAfter s rs f) D noRow) D
           go D h true k =
               chained-kept v c s v′ (afterDefinitions 1 c) (stands .holds) grown file refs refs′ (declarationsOf fs) [] (s .bytes) (add s f .bytes)
-              (few-declared file fs s rs v c p refs words declared stands) same (omega (arith, ends, begins)) (add s f) (ownOne s name params e ∷ []) rs
+              (few-declared file fs s rs v c p refs words stands) same (omega (arith, ends, begins)) (add s f) (ownOne s name params e ∷ []) rs
               (ownWorld (length (s .definitions)) ∷ []) refl (rows-counted v c s rs (stands .holds) (stands .worlds)) (stands .chained) D (ltb-true D (c .definitions) k)
           go D h false k = let n : c .definitions ≤ D = ltb-false D (c .definitions) k in inl (new-own D (omega arith))
 
-      all-stands : Standing file (fs ++ (f ∷ [])) (add s f) (rowsAfter s rs f) v′ (afterDefinitions 1 c) Inside refs′ words′ declared
+      all-stands : Standing file (fs ++ (f ∷ [])) (add s f) (rowsAfter s rs f) v′ (afterDefinitions 1 c) Inside refs′ words′
       all-stands =
-          stands-after file fs s rs v c p refs words declared stands (Definition name params at l) f field lawful v′ (afterDefinitions 1 c) Inside refs′ holds′ refl words′ declared
-          (declares-other (v .facts) (v′ .facts) c (afterDefinitions 1 c) fs f (stands .declares) (numbers-kept file fs s rs v c p refs words declared stands v′ rows) refl refl)
-          (subst (λ (d : Declarations). DeclaredCodes v′ d declared) (sym decls) (codes-kept v c v′ (declarationsOf fs) declared rows (stands .early) (stands .codes)))
-          (λ d h. let k = stands .early d (subst (λ (y : Declarations). d < length y) decls h) in omega arith)
+          stands-after file fs s rs v c p refs words stands (Definition name params at l) f field lawful v′ (afterDefinitions 1 c) Inside refs′ holds′ refl words′
+          (declares-other (v .facts) (v′ .facts) c (afterDefinitions 1 c) fs f (stands .declares) (numbers-kept file fs s rs v c p refs words stands v′ rows) refl refl)
+          (subst (λ (d : Declarations). DeclaredCodes v′ d (v′ .declared)) (sym decls)
+          (still-codes file fs s rs v c p refs words stands (Definition name params at l) f field lawful v′ (afterDefinitions 1 c) Inside refs′ holds′ refl rows same-codes))
+          (λ d h. rw same-codes (let k = stands .early d (subst (λ (y : Declarations). d < length y) decls h) in omega arith))
           (subst (λ (d : Declarations). Shows (sceneOf itselves words′) d (add s f)) (sym more) shows′)
           (subst (λ (d : Declarations). Chained v′ (afterDefinitions 1 c) file refs′ d (add s f) (rowsAfter s rs f) (add s f .bytes)) (sym more) chained′)
-          (text-law file fs s rs v c p refs words declared stands (field .bytes) (field .short) at l e inside q kept params small refs′ t x .size ∙ stands .refs-size)
+          (text-law file fs s rs v c p refs words stands (field .bytes) (field .short) at l e inside q kept params small refs′ t x .size ∙ stands .refs-size)
           (words-length s (add s f) (ownOne s name params e) params u refl refl (omega (arith, few, stands .holds .definitions)) words words′ (t .form) (stands .words-size)
           (kw ∙ ap (λ (g : ℕ). storedForm words g (t .form)) (stands .holds .definitions)) (subst (λ (g : ℕ). formAt words′ g ≡ t .form) (stands .holds .definitions) kf))
 
-    finished-advances : Finished v v′ words words′ p c name params at l t r → Advances file fs s rs f r v′ refs′ words′ declared
+    finished-advances : Finished v v′ words words′ p c name params at l t r → Advances file fs s rs f r v′ refs′ words′
     finished-advances (wrong h y) =
         let k : r .cause ≡ textCause t = ap (λ (j : Judged). j .cause) y in
         record { cause = k ∙ text-causes; stands = λ g. absurd (h (sym k ∙ g)) }
@@ -250,28 +254,28 @@ module _ (file : List ℕ) (fs : List Field) (s : State) (rs : List Row) (v : St
         record {
           cause = k ∙ sym clear ∙ text-causes;
           stands = λ g.
-              subst (λ (j : Judged). Standing file (fs ++ (f ∷ [])) (add s f) (rowsAfter s rs f) v′ (j .counts) (j .phase) refs′ words′ declared) (sym y) (all-stands clear st kw kf);
+              subst (λ (j : Judged). Standing file (fs ++ (f ∷ [])) (add s f) (rowsAfter s rs f) v′ (j .counts) (j .phase) refs′ words′) (sym y) (all-stands clear st kw kf);
         }
 
-  definition-advances : Defining v v′ file words words′ refs refs′ p c name params at l r → Advances file fs s rs f r v′ refs′ words′ declared
+  definition-advances : Defining v v′ file words words′ refs refs′ p c name params at l r → Advances file fs s rs f r v′ refs′ words′
   definition-advances (stopped h y) =
       let k : r .cause ≡ w = ap (λ (j : Judged). j .cause) y in
       record { cause = k ∙ stop-law h; stands = λ g. absurd (h (sym k ∙ g)) }
   definition-advances (walked z t x y) = finished-advances z t x y
 
 -- A definition field is judged as the rules judge it.
-module _ (file : List ℕ) (v v′ : Store) (c : Counts) (p : Phase) (refs refs′ words words′ declared : List ℕ) (name params at l : ℕ) (r : Judged) where
+module _ (file : List ℕ) (v v′ : Store) (c : Counts) (p : Phase) (refs refs′ words words′ : List ℕ) (name params at l : ℕ) (r : Judged) where
   pub definition-judging : Defining v v′ file words words′ refs refs′ p c name params at l r
-      → Judging file (Definition name params at l) v v′ c p r refs refs′ words words′ declared declared
+      → Judging file (Definition name params at l) v v′ c p r refs refs′ words words′
   definition-judging y = record { advances = λ fs s rs f stands field. go fs s rs f stands field (field .tells .0) (field .tells .1 .0) (field .tells .1 .1) (field .tells .2) }
     where
-      go : (fs : List Field) (s : State) (rs : List Row) (f : Field) (stands : Standing file fs s rs v c p refs words declared)
+      go : (fs : List Field) (s : State) (rs : List Row) (f : Field) (stands : Standing file fs s rs v c p refs words)
           (field : AtField file s (Definition name params at l) f) (e : Expression) → at + l ≡ field .end → expression .read (part file at l) ≡ some e
-          → f ≡ definition name params e → Advances file fs s rs f r v′ refs′ words′ declared
+          → f ≡ definition name params e → Advances file fs s rs f r v′ refs′ words′
       go fs s rs f stands field e b q same =
-          subst (λ (f : Field). (field : AtField file s (Definition name params at l) f) → at + l ≡ field .end → Advances file fs s rs f r v′ refs′ words′ declared) (sym same)
-          (λ field b. definition-advances file fs s rs v c p refs words declared stands name params at l e field b q v′ refs′ words′ r y) field b
+          subst (λ (f : Field). (field : AtField file s (Definition name params at l) f) → at + l ≡ field .end → Advances file fs s rs f r v′ refs′ words′) (sym same)
+          (λ field b. definition-advances file fs s rs v c p refs words stands name params at l e field b q v′ refs′ words′ r y) field b
 
   pub stopped-judging : (cause : ℕ) → cause ≡ definitionCause p c (v .names) (v .contexts) (v .heads) file name params at → (cause ≡ 0 → ⊥) → r ≡ refusal cause p c
-      → Judging file (Definition name params at l) v v′ c p r refs refs′ words words′ declared declared
+      → Judging file (Definition name params at l) v v′ c p r refs refs′ words words′
   stopped-judging cause first h e = definition-judging (stopped (λ z. h (first ∙ z)) (e ∙ ap (λ (w : ℕ). refusal w p c) first))

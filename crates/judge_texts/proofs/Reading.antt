@@ -33,7 +33,8 @@ use Rattle.agree.specs.Trees.{AllTokens, AllTokensOf}
 use Rattle.agree.proofs.Limits.{limits-agree}
 use Rattle.agree.proofs.Walks.{tokens-found}
 use Rattle.forms.specs.Forms.{levelAt}
-use Rattle.context.specs.Store.{Store, codesOf}
+use Rattle.context.specs.Entries.{codesOf}
+use Rattle.store.specs.Store.{Store}
 use Rattle.context.specs.declared.Counts.{Counts}
 use Rattle.levels.specs.Tables.{sceneOf}
 use Rattle.resolve.proofs.Law.{Right}
@@ -76,8 +77,8 @@ turned-test k l = go (ℕ-discrete l k)
     go (no n) = ne-eqb l k n ∙ sym (ne-eqb k l (λ e. n (sym e)))
 
 -- The text is the expression e of l bytes at a position, over n parameters; it keeps the limits, and was read.
-module _ (file : List ℕ) (fs : List Field) (s : State) (rs : List Row) (v : Store) (c : Counts) (p : Phase) (refs words declared : List ℕ)
-    (stands : Standing file fs s rs v c p refs words declared) (bytes : Bytes file) (short : length file ≤ fileBytes)
+module _ (file : List ℕ) (fs : List Field) (s : State) (rs : List Row) (v : Store) (c : Counts) (p : Phase) (refs words : List ℕ)
+    (stands : Standing file fs s rs v c p refs words) (bytes : Bytes file) (short : length file ≤ fileBytes)
     (at l : ℕ) (e : Expression) (room : at + l ≤ length file) (q : expression .read (part file at l) ≡ some e) (kept : overLimit e ≡ false)
     (n : ℕ) (small : n ≤ maxArity) (refs′ : List ℕ) (t : Text) (x : Texted (v .names) (v .facts) (codesOf v (c .modules)) file words n at refs refs′ t) where
   abbrev u : Term

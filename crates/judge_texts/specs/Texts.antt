@@ -13,7 +13,8 @@ use Rattle.tokens.specs.declared.Limit.{Limit}
 use Rattle.tokens.specs.declared.Limit.the-variants.{Kept, Passed}
 use Rattle.forms.specs.Forms.{formAt, levelAt, stored as storedForm}
 use Rattle.context.specs.Lookup.{codeNamed}
-use Rattle.context.specs.Store.{Store, afterDefinitions, afterField, codesOf, contextCodes, grown, ownRow, stored, withCode, withNumber}
+use Rattle.context.specs.Entries.{afterDefinitions, afterField, codesOf, contextCodes, defining, ownRow}
+use Rattle.store.specs.Store.{Store}
 use Rattle.context.specs.declared.Counts.{Counts}
 use Rattle.resolve.specs.Walk.{Looks}
 use Rattle.levels.specs.Tables.{namesOf}
@@ -60,13 +61,9 @@ definitionCause p c names contexts heads file name params at =
     (cond (ltb maxArity params) 5
     (cond (isPassed (limitAt file at)) 5 (cond (isSome (codeNamed names name (contextCodes contexts heads (c .modules)))) 8 0))))
 
--- what a definition leaves in the arrays
-pub record Stored (v v′ : Store) (c : Counts) (name params at len : ℕ) : Type 0 where
-  pub names : v′ .names ≡ set (v .names) (c .definitions) name
-  pub facts : v′ .facts ≡ stored (v .facts) (c .definitions) (ownRow (c .definitions) params at len)
-  pub contexts : v′ .contexts ≡ withCode (v .contexts) (v .heads) (c .modules) (c .definitions)
-  pub orders : v′ .orders ≡ withNumber (v .orders) (v .heads) (c .modules) (c .definitions)
-  pub heads : v′ .heads ≡ grown (v .heads) (c .modules)
+-- what a definition leaves
+abbrev pub Stored : Store → Store → Counts → ℕ → ℕ → ℕ → ℕ → Type 0
+Stored v v′ c name params at len = v′ ≡ defining v c name (ownRow (c .definitions) params at len)
 
 -- what is left to judge of a definition whose text was read, and what it leaves
 pub data Finished (v v′ : Store) (words words′ : List ℕ) (p : Phase) (c : Counts) (name params at len : ℕ) (t : Text) (r : Judged) : Type 0 where

@@ -5,13 +5,14 @@ ghost use Prim.Native.Nat.{ℕ, _≤_, _<_};
 ghost use lib.ListN.{length};
 ghost use Rattle.limits.specs.Limits.{maxModules};
 ghost use Rattle.limits.specs.Sizes.{maxFields};
-ghost use Rattle.context.specs.Store.{afterField, contextCodes, store};
+ghost use Rattle.context.specs.Entries.{afterField, contextCodes};
 ghost use Rattle.fields.specs.declared.Parts.the-variants.{Assume, Theorem};
 ghost use Rattle.levels.specs.Tables.{tableWords};
 ghost use Rattle.judge_plain.specs.Causes.{answer};
 ghost use Rattle.judge_plain.specs.declared.Phase.the-variants.{Inside};
 ghost use Rattle.standing.specs.Standing.{Judging};
 ghost use Rattle.judge_texts.specs.Texts.{Formula, formulaCause, isPassed, lastCause};
+ghost use Rattle.store.specs.Store.{held};
 use crate::Text;
 use crate::read_text;
 use crate::text_cause;
@@ -20,8 +21,17 @@ use judge_plain::Judged;
 use judge_plain::Phase;
 use judge_plain::out_of_order;
 use judge_plain::refused;
+use store::Lent;
+use store::Store;
 use tokens::Limit;
 use tokens::limit_at;
+
+// A formula: its field's tag, whether its level must be 0, and where it stands.
+pub struct Stated {
+    pub tag: u8,
+    pub strict: bool,
+    pub at: usize,
+}
 
 pub fn is_passed(l: Limit) -> bool
     ensures { λ r. ⌜ r ≡ isPassed l ⌝ }
@@ -76,95 +86,67 @@ pub fn answered(cause: u8, phase: Phase, c: Counts) -> Judged
     }
 }
 
-// Judges a field of that tag whose formula stands at a position.
+// Judges a formula.
 pub fn formula_field(
     file: &[u8],
-    names: &[u16],
-    facts: &[u16],
-    contexts: &[u16],
-    heads: &[u16],
-    refs: &mut [u16],
-    words: &[u64],
+    store: &[u16; Store::LENGTH],
+    refs: &mut [u16; Lent::REFS],
+    words: &[u64; Lent::WORDS],
     phase: Phase,
     c: Counts,
-    tag: u8,
-    strict: bool,
-    at: usize,
+    f: Stated,
 ) -> Judged
     requires { ⌜ (c .modules ≤ maxModules) × (c .fields < maxFields) × (length (now words) ≡ tableWords) ⌝ }
-    ensures { λ r. ⌜ Formula (now (names .entry)) (now (facts .entry)) (contextCodes (now (contexts .entry)) (now (heads .entry)) (c .modules)) (now (file .entry)) (now (words .entry)) (now (refs .entry)) (now (refs .exit)) phase c tag strict at r ⌝ }
+    ensures { λ r. ⌜ Formula (held (now (store .entry)) .names) (held (now (store .entry)) .facts) (contextCodes (held (now (store .entry)) .contexts) (held (now (store .entry)) .heads) (c .modules)) (now (file .entry)) (now (words .entry)) (now (refs .entry)) (now (refs .exit)) phase c (f .tag) (f .strict) (f .at) r ⌝ }
 {
-    let cause = formula_cause(file, phase, tag, at);
+    let at = f.at;
+    let cause = formula_cause(file, phase, f.tag, at);
     if cause != 0 {
         return refused(cause, phase, c);
     }
     let m = c.modules;
-    let t = read_text(file, names, facts, contexts, heads, refs, words, at, m, 0);
-    answered(last_cause(strict, t), phase, c)
+    let t = read_text(file, store, refs, words, at, m, 0);
+    answered(last_cause(f.strict, t), phase, c)
 }
 
-// Judges an ASSUME field, whose formula of len bytes stands at a position.
+// Judges an ASSUME field, whose formula stands at a position.
 pub fn assume_field(
     file: &[u8],
-    names: &[u16],
-    facts: &[u16],
-    contexts: &[u16],
-    heads: &[u16],
-    refs: &mut [u16],
-    words: &[u64],
+    store: &[u16; Store::LENGTH],
+    refs: &mut [u16; Lent::REFS],
+    words: &[u64; Lent::WORDS],
     phase: Phase,
     c: Counts,
     at: usize,
-    len: usize,
 ) -> Judged
     requires { ⌜ (c .modules ≤ maxModules) × (c .fields < maxFields) × (length (now words) ≡ tableWords) ⌝ }
-    ensures { λ r. ⌜ ((orders declared : List ℕ) → Judging (now (file .entry)) (Assume at len) (store (now (names .entry)) (now (facts .entry)) (now (contexts .entry)) orders (now (heads .entry))) (store (now (names .entry)) (now (facts .entry)) (now (contexts .entry)) orders (now (heads .entry))) c phase r (now (refs .entry)) (now (refs .exit)) (now (words .entry)) (now (words .entry)) declared declared) ⌝ }
+    ensures { λ r. ⌜ ((len : ℕ) → Judging (now (file .entry)) (Assume at len) (held (now (store .entry))) (held (now (store .entry))) c phase r (now (refs .entry)) (now (refs .exit)) (now (words .entry)) (now (words .entry))) ⌝ }
 {
-    formula_field(
-        file,
-        names,
-        facts,
-        contexts,
-        heads,
-        refs,
-        words,
-        phase,
-        c,
-        8,
-        true,
+    let f = Stated {
+        tag: 8,
+        strict: true,
         at,
-    )
+    };
+    formula_field(file, store, refs, words, phase, c, f)
 }
 
 // Judges a THEOREM field.
 pub fn theorem_field(
     file: &[u8],
-    names: &[u16],
-    facts: &[u16],
-    contexts: &[u16],
-    heads: &[u16],
-    refs: &mut [u16],
-    words: &[u64],
+    store: &[u16; Store::LENGTH],
+    refs: &mut [u16; Lent::REFS],
+    words: &[u64; Lent::WORDS],
     phase: Phase,
     c: Counts,
     at: usize,
-    len: usize,
 ) -> Judged
     requires { ⌜ (c .modules ≤ maxModules) × (c .fields < maxFields) × (length (now words) ≡ tableWords) ⌝ }
-    ensures { λ r. ⌜ ((orders declared : List ℕ) → Judging (now (file .entry)) (Theorem at len) (store (now (names .entry)) (now (facts .entry)) (now (contexts .entry)) orders (now (heads .entry))) (store (now (names .entry)) (now (facts .entry)) (now (contexts .entry)) orders (now (heads .entry))) c phase r (now (refs .entry)) (now (refs .exit)) (now (words .entry)) (now (words .entry)) declared declared) ⌝ }
+    ensures { λ r. ⌜ ((len : ℕ) → Judging (now (file .entry)) (Theorem at len) (held (now (store .entry))) (held (now (store .entry))) c phase r (now (refs .entry)) (now (refs .exit)) (now (words .entry)) (now (words .entry))) ⌝ }
 {
-    formula_field(
-        file,
-        names,
-        facts,
-        contexts,
-        heads,
-        refs,
-        words,
-        phase,
-        c,
-        9,
-        false,
+    let f = Stated {
+        tag: 9,
+        strict: false,
         at,
-    )
+    };
+    formula_field(file, store, refs, words, phase, c, f)
 }

@@ -5,16 +5,19 @@ pub mod formulas;
 ghost use mathlib.Core.Path.{_≡_};
 ghost use Prim.Native.Nat.{_≤_};
 ghost use Rattle.limits.specs.Limits.{maxModules};
-ghost use Rattle.context.specs.Store.{contextCodes};
+ghost use Rattle.context.specs.Entries.{contextCodes};
 ghost use Rattle.levels.specs.Tables.{namesOf};
 ghost use Rattle.levels.specs.Walk.{TextForm};
 ghost use Rattle.standing.specs.Standing.{itselves};
 ghost use Rattle.judge_texts.specs.Texts.{Texted, textCause};
+ghost use Rattle.store.specs.Store.{held};
 use forms::levels::level_at_zero;
 use levels::names::identity;
 use levels::text_form;
 use limits::Limits;
 use resolve::walk::look_at;
+use store::Lent;
+use store::Store;
 
 // What a text comes to: the position after it; whether something in it is unknown (cause 9), or an argument count wrong (cause 10); its level
 // with parameters at 0; its form.
@@ -27,7 +30,7 @@ pub struct Text {
 }
 
 // The form of a text of the module that is open: every definition is itself, no instance is around it.
-pub fn own_form(file: &[u8], refs: &[u16], words: &[u64], at: usize) -> u64
+pub fn own_form(file: &[u8], refs: &[u16; Lent::REFS], words: &[u64; Lent::WORDS], at: usize) -> u64
     ensures { λ r. ⌜ TextForm (namesOf (now (refs .entry)) itselves (now (words .entry)) 0) (now (file .entry)) at r ⌝ }
 {
     let mut numbers = [0u16; Limits::DEFINITIONS];
@@ -38,20 +41,17 @@ pub fn own_form(file: &[u8], refs: &[u16], words: &[u64], at: usize) -> u64
 // Reads the text at a position, which keeps the limits, in the context of module m, with so many parameters.
 pub fn read_text(
     file: &[u8],
-    names: &[u16],
-    facts: &[u16],
-    contexts: &[u16],
-    heads: &[u16],
-    refs: &mut [u16],
-    words: &[u64],
+    store: &[u16; Store::LENGTH],
+    refs: &mut [u16; Lent::REFS],
+    words: &[u64; Lent::WORDS],
     at: usize,
     m: usize,
     params: usize,
 ) -> Text
     requires { ⌜ m ≤ maxModules ⌝ }
-    ensures { λ r. ⌜ Texted (now (names .entry)) (now (facts .entry)) (contextCodes (now (contexts .entry)) (now (heads .entry)) m) (now (file .entry)) (now (words .entry)) params at (now (refs .entry)) (now (refs .exit)) r ⌝ }
+    ensures { λ r. ⌜ Texted (held (now (store .entry)) .names) (held (now (store .entry)) .facts) (contextCodes (held (now (store .entry)) .contexts) (held (now (store .entry)) .heads) m) (now (file .entry)) (now (words .entry)) params at (now (refs .entry)) (now (refs .exit)) r ⌝ }
 {
-    let k = look_at(file, names, facts, contexts, heads, refs, at, m, params);
+    let k = look_at(file, store, refs, at, m, params);
     let form = own_form(file, refs, words, at);
     Text {
         next: k.next,

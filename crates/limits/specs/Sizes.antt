@@ -1,6 +1,6 @@
--- The sizes of the arrays of 16-bit numbers that keep what the fields add. They follow from the limits; nothing of the paper depends on them.
+-- The sizes of the regions of 16-bit numbers that keep what the fields add. They follow from the limits; nothing of the paper depends on them.
 use Prim.Native.Nat.{ℕ, _+_, _*_, _/_}
-use Rattle.limits.specs.Limits.{fileBytes, maxDefinitions, maxModules}
+use Rattle.limits.specs.Limits.{fileBytes, maxDeclarations, maxDefinitions, maxModules}
 
 -- "A field is a one-byte tag, a two-byte length, and that many bytes"
 abbrev pub fieldHeadBytes : ℕ
@@ -49,3 +49,7 @@ ordersLength = placeCount * maxDefinitions
 -- of each module its name, the length of its context and the number of its definitions
 abbrev pub headsLength : ℕ
 headsLength = 3 * placeCount
+
+-- all that the fields add, with the code of each declaration
+abbrev pub storeLength : ℕ
+storeLength = codeCount + factsLength + contextsLength + ordersLength + headsLength + maxDeclarations

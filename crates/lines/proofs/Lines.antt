@@ -4,17 +4,15 @@ use mathlib.Core.Path.{_≡_, _∙_, ap, ap₂, refl, sym}
 use Prim.Native.Nat.{ℕ, _+_, _*_, _≤_, _<_}
 use native.Mathlib.Numerals.{add-one}
 use native.Mathlib.Omega.{arith}
-use mathlib.Core.Bool.{cond}
-use lib.Dec.{ltb}
 use lib.ListN.{getD, length}
 use lib.Seq.{length-sets}
-use Rattle.limits.specs.Limits.{cardBytes, maxArity, maxDefinitions}
-use Rattle.limits.specs.Sizes.{columnCount}
+use Rattle.limits.specs.Limits.{cardBytes, maxDefinitions}
 use Rattle.rules.specs.Listing.{decimal, line}
 use Rattle.rules.specs.Run.{overwrite}
 use Rattle.forms.specs.Forms.{formAt, levelAt}
-use Rattle.context.specs.Store.{viaAt}
-use Rattle.lines.specs.Text.{arityAt, cardDigits, heading, lineAt, lineRoom, linesOf, number, refusalText, refusedWord, textOf, textRoom}
+use Rattle.store.specs.Store.{viaAt}
+use Rattle.context.specs.Lookup.{arityAt}
+use Rattle.lines.specs.Text.{cardDigits, heading, lineAt, lineRoom, linesOf, number, refusalText, refusedWord, textOf, textRoom}
 use Rattle.lines.specs.Writes.{Writes}
 use Rattle.lines.proofs.Writing.{writes-as, writes-front, writes-then}
 
@@ -30,13 +28,12 @@ names-put names facts g o₀ o₁ o₂ o₃ at p q r x y ex ey a b c =
     (writes-as (writes-then (writes-then (a .0) (b .0)) (c .0)) (ap₂ (λ (j k : ℕ). number g 32 ++ number j 32 ++ number k 32) ex ey), omega (arith, a .1, b .1, c .1))
 
 -- the line of a definition, from its parts
-pub line-put : (names facts words : List ℕ) (g : ℕ) (o₀ o₁ o₂ o₃ o₄ : List ℕ) (at p q r s x k : ℕ) (f : ℕ) → x ≡ getD facts (columnCount * g) 0 → k ≡ cond (ltb maxArity x) 0 x → f ≡ formAt words g
+pub line-put : (names facts words : List ℕ) (g : ℕ) (o₀ o₁ o₂ o₃ o₄ : List ℕ) (at p q r s k f : ℕ) → k ≡ arityAt facts g → f ≡ formAt words g
     → Writes o₀ o₁ at (number g 32 ++ number (viaAt facts g) 32 ++ number (getD names g 0) 32) p × (p ≤ at + 18)
     → Writes o₁ o₂ p (number k 32) q × (q ≤ p + 6) → Writes o₂ o₃ q (cardDigits k (levelAt f)) r × (r ≤ q + 2 * cardBytes) → Writes o₃ o₄ r (10 ∷ []) s
     → Writes o₀ o₄ at (lineAt names facts words g) s × (s ≤ at + lineRoom)
 unfolding lineAt
-line-put names facts words g o₀ o₁ o₂ o₃ o₄ at p q r s x k f ex ek ef a b c d =
-    let e : k ≡ arityAt facts g = ek ∙ ap (λ (j : ℕ). cond (ltb maxArity j) 0 j) ex in
+line-put names facts words g o₀ o₁ o₂ o₃ o₄ at p q r s k f e ef a b c d =
     let u = writes-then (writes-then (writes-then (a .0) (b .0)) (c .0)) d in (
       writes-as u
           (line-joined (decimal g) (decimal (viaAt facts g)) (decimal (getD names g 0)) (decimal k) (cardDigits k (levelAt f))

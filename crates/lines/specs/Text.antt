@@ -1,18 +1,13 @@
 -- The listing of what the arrays hold.
-use mathlib.Core.Bool.{cond}
 use mathlib.Core.List.{List, [], _∷_, _++_}
 use Prim.Native.Nat.{ℕ, zero, suc, _+_, _*_}
-use lib.Dec.{ltb}
 use lib.ListN.{getD}
-use Rattle.limits.specs.Limits.{cardBytes, maxArity, maxDefinitions}
+use Rattle.limits.specs.Limits.{cardBytes, maxDefinitions}
 use Rattle.theory.specs.Card.{cardOf}
 use Rattle.rules.specs.Listing.{decimal, hexadecimal, line}
 use Rattle.forms.specs.Forms.{formAt, levelAt}
-use Rattle.context.specs.Store.{kindAt, viaAt}
-
--- the parameter count of definition g; none has more than the limit
-abbrev pub arityAt : List ℕ → ℕ → ℕ
-arityAt facts g = cond (ltb maxArity (kindAt facts g)) 0 (kindAt facts g)
+use Rattle.store.specs.Store.{viaAt}
+use Rattle.context.specs.Lookup.{arityAt}
 
 -- "the card's 32 lower-case hexadecimal digits"
 abbrev pub cardDigits : ℕ → (List ℕ → ℕ) → List ℕ

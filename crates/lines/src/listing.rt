@@ -1,41 +1,35 @@
-// The listing of the definitions that the arrays hold, and the line of a refusal.
-ghost use mathlib.Core.Bool.{cond};
+// The listing of the definitions that the store holds, and the line of a refusal.
 ghost use mathlib.Core.List.{_++_};
 ghost use mathlib.Core.Path.{_≡_};
 ghost use Prim.Native.Nat.{_+_, _≤_, _<_};
-ghost use lib.Dec.{ltb};
 ghost use lib.ListN.{getD, length};
-ghost use Rattle.limits.specs.Limits.{maxArity, maxDefinitions};
-ghost use Rattle.context.specs.Store.{viaAt};
+ghost use Rattle.limits.specs.Limits.{maxDefinitions};
+ghost use Rattle.store.specs.Store.{held, viaAt};
 ghost use Rattle.rules.specs.Run.{overwrite};
 ghost use Rattle.lines.specs.Text.{heading, lineAt, lineRoom, linesOf, number, refusalText, refusedWord, textOf, textRoom};
 ghost use Rattle.lines.specs.Writes.{Writes};
 use crate::digits::put_card;
 use crate::numbers::put_byte;
 use crate::numbers::put_number;
-use context::lists::number_at;
+use context::lookup::params_at;
 use levels::names::form_at;
 use limits::Limits;
+use store::Lent;
+use store::Store;
+use store::reading::fact_at;
+use store::reading::name_at;
 
 const SPACE: u8 = 32;
 
 const LINE_FEED: u8 = 10;
 
-// A parameter count; no definition has more than the limit.
-fn within(n: u16) -> usize
-    ensures { λ r. ⌜ (r ≡ cond (ltb maxArity n) 0 n) × (r ≤ maxArity) ⌝ }
-{
-    let k = n as usize;
-    if Limits::ARITY < k { 0 } else { k }
-}
-
 // A definition's number, its instance's name or 0, its name.
-fn put_names(names: &[u16], facts: &[u16], g: usize, out: &mut [u8], at: usize) -> usize
+fn put_names(store: &[u16; Store::LENGTH], g: usize, out: &mut [u8], at: usize) -> usize
     requires { ⌜ (g < maxDefinitions) × (at + 18 ≤ length (now out)) ⌝ }
-    ensures { λ r. ⌜ Writes (now (out .entry)) (now (out .exit)) at (number g 32 ++ number (viaAt (now (facts .entry)) g) 32 ++ number (getD (now (names .entry)) g 0) 32) r × (r ≤ at + 18) ⌝ }
+    ensures { λ r. ⌜ Writes (now (out .entry)) (now (out .exit)) at (number g 32 ++ number (viaAt (held (now (store .entry)) .facts) g) 32 ++ number (getD (held (now (store .entry)) .names) g 0) 32) r × (r ≤ at + 18) ⌝ }
 {
-    let via = number_at(facts, Limits::COLUMNS * g + 3) as usize;
-    let name = number_at(names, g) as usize;
+    let via = fact_at(store, Limits::COLUMNS * g + 3) as usize;
+    let name = name_at(store, g) as usize;
     let next = put_number(out, at, g, SPACE);
     let more = put_number(out, next, via, SPACE);
     put_number(out, more, name, SPACE)
@@ -43,19 +37,18 @@ fn put_names(names: &[u16], facts: &[u16], g: usize, out: &mut [u8], at: usize) 
 
 // The line of definition g.
 fn put_line(
-    names: &[u16],
-    facts: &[u16],
-    words: &[u64],
+    store: &[u16; Store::LENGTH],
+    words: &[u64; Lent::WORDS],
     g: usize,
     out: &mut [u8],
     at: usize,
 ) -> usize
     requires { ⌜ (g < maxDefinitions) × (at + lineRoom ≤ length (now out)) ⌝ }
-    ensures { λ r. ⌜ Writes (now (out .entry)) (now (out .exit)) at (lineAt (now (names .entry)) (now (facts .entry)) (now (words .entry)) g) r × (r ≤ at + lineRoom) ⌝ }
+    ensures { λ r. ⌜ Writes (now (out .entry)) (now (out .exit)) at (lineAt (held (now (store .entry)) .names) (held (now (store .entry)) .facts) (now (words .entry)) g) r × (r ≤ at + lineRoom) ⌝ }
 {
-    let k = within(number_at(facts, Limits::COLUMNS * g));
+    let k = params_at(store, g);
     let f = form_at(words, g);
-    let named = put_names(names, facts, g, out, at);
+    let named = put_names(store, g, out, at);
     let counted = put_number(out, named, k, SPACE);
     let shown = put_card(f, k, out, counted);
     put_byte(out, shown, LINE_FEED)
@@ -74,32 +67,36 @@ fn put_heading(n: usize, out: &mut [u8]) -> usize
 
 // The lines of the first n definitions, from place at on.
 fn put_lines(
-    names: &[u16],
-    facts: &[u16],
-    words: &[u64],
+    store: &[u16; Store::LENGTH],
+    words: &[u64; Lent::WORDS],
     n: usize,
     out: &mut [u8],
     at: usize,
 ) -> usize
     requires { ⌜ (n ≤ maxDefinitions) × (at ≤ 9) × (textRoom ≤ length (now out)) ⌝ }
-    ensures { λ r. ⌜ Writes (now (out .entry)) (now (out .exit)) at (linesOf (now (names .entry)) (now (facts .entry)) (now (words .entry)) n) r × (r ≤ textRoom) ⌝ }
+    ensures { λ r. ⌜ Writes (now (out .entry)) (now (out .exit)) at (linesOf (held (now (store .entry)) .names) (held (now (store .entry)) .facts) (now (words .entry)) n) r × (r ≤ textRoom) ⌝ }
 {
     let mut next = at;
     let mut g: usize = 0;
     while g < n {
-        next = put_line(names, facts, words, g, out, next);
+        next = put_line(store, words, g, out, next);
         g += 1;
     }
     next
 }
 
 // The listing of n definitions at the front of out; every other byte stays.
-pub fn write_listing(names: &[u16], facts: &[u16], words: &[u64], n: usize, out: &mut [u8]) -> usize
+pub fn write_listing(
+    store: &[u16; Store::LENGTH],
+    words: &[u64; Lent::WORDS],
+    n: usize,
+    out: &mut [u8],
+) -> usize
     requires { ⌜ (n ≤ maxDefinitions) × (textRoom ≤ length (now out)) ⌝ }
-    ensures { λ r. ⌜ (now (out .exit) ≡ overwrite (textOf (now (names .entry)) (now (facts .entry)) (now (words .entry)) n) (now (out .entry))) × (r ≡ length (textOf (now (names .entry)) (now (facts .entry)) (now (words .entry)) n)) × (r ≤ textRoom) ⌝ }
+    ensures { λ r. ⌜ (now (out .exit) ≡ overwrite (textOf (held (now (store .entry)) .names) (held (now (store .entry)) .facts) (now (words .entry)) n) (now (out .entry))) × (r ≡ length (textOf (held (now (store .entry)) .names) (held (now (store .entry)) .facts) (now (words .entry)) n)) × (r ≤ textRoom) ⌝ }
 {
     let at = put_heading(n, out);
-    put_lines(names, facts, words, n, out, at)
+    put_lines(store, words, n, out, at)
 }
 
 // The word of a refusal.

@@ -13,8 +13,7 @@ use Rattle.theory.proofs.Lists.{or-true}
 use Rattle.rules.specs.Bytes.{isEmpty}
 use Rattle.rules.specs.Listing.{listing, listingOf}
 use Rattle.rules.specs.Run.{checked, judgeFile, overwrite, refusal}
-use Rattle.context.proofs.Adds.{empty}
-use Rattle.context.specs.Store.{Store, store}
+use Rattle.store.specs.Store.{Store, empty}
 use Rattle.context.specs.declared.Counts.{Counts}
 use Rattle.resolve.proofs.Numbers.{declarationsOf}
 use Rattle.checker.specs.Settles.{Few, Settles}
@@ -37,14 +36,14 @@ size-checked file memory room wrong =
 enough : cardMemoryBytes ≤ length (replicate {A = ℕ} cardMemoryBytes 0)
 enough = rw (length-replicate {A = ℕ} cardMemoryBytes 0) (omega arith)
 
-pub reply-listed : (file : List ℕ) (v : Store) (c : Counts) (refs words declared : List ℕ) (r : Reply) → isEmpty file ≡ false → length file ≤ fileBytes
-    → Settles file v c refs words declared r → replyText (v .names) (v .facts) words r ≡ listingOf file
-reply-listed file v c refs words declared (Accepted n) some fits x =
+pub reply-listed : (file : List ℕ) (v : Store) (c : Counts) (refs words : List ℕ) (r : Reply) → isEmpty file ≡ false → length file ≤ fileBytes
+    → Settles file v c refs words r → replyText (v .names) (v .facts) words r ≡ listingOf file
+reply-listed file v c refs words (Accepted n) some fits x =
     let s = x .stands in
     ap (textOf (v .names) (v .facts) words) (sym (x .counted))
     ∙ text-listed v c (x .state) words (declarationsOf (x .fields)) (s .holds) (s .within) (s .forms)
     ∙ ap listing (sym (fields-checked file (replicate cardMemoryBytes 0) enough some fits ∙ x .accepted))
-reply-listed file v c refs words declared (Refused k p) some fits x = ap listing (sym (fields-checked file (replicate cardMemoryBytes 0) enough some fits ∙ x))
+reply-listed file v c refs words (Refused k p) some fits x = ap listing (sym (fields-checked file (replicate cardMemoryBytes 0) enough some fits ∙ x))
 
 -- "file empty or over its limit"
 pub empty-listed : (file : List ℕ) → length file ≡ 0 → refusalText 2 0 ≡ listingOf file
@@ -67,16 +66,5 @@ Front before after text r = (after ≡ overwrite text before) × (r ≡ length t
 pub front-as : (before after a b : List ℕ) (r : ℕ) → Front before after a r → a ≡ b → Front before after b r
 front-as before after a b r f e = subst (λ (t : List ℕ). Front before after t r) e f
 
-pub settled-few : (file : List ℕ) (v : Store) (c : Counts) (refs words declared : List ℕ) (r : Reply) → Settles file v c refs words declared r → Few r
-settled-few file v c refs words declared (Accepted n) x = omega (arith, x .counted, x .stands .holds .sized .definitions)
-settled-few file v c refs words declared (Refused k p) x = tt
-
-pub few-in : (r : Reply) (n : ℕ) → r ≡ Accepted n → Few r → n ≤ maxDefinitions
-few-in r n e f = subst Few e f
-
 pub text-in : (names facts words : List ℕ) (r q : Reply) → r ≡ q → replyText names facts words q ≡ replyText names facts words r
 text-in names facts words r q e = ap (replyText names facts words) (sym e)
-
-pub empty-store : {names facts contexts orders heads : List ℕ} → names ≡ replicate codeCount 0 → facts ≡ replicate factsLength 0 → contexts ≡ replicate contextsLength 0
-    → orders ≡ replicate ordersLength 0 → heads ≡ replicate headsLength 0 → store names facts contexts orders heads ≡ empty
-empty-store a b d e f i = store (a i) (b i) (d i) (e i) (f i)

@@ -8,7 +8,7 @@ use Rattle.limits.specs.Limits.{cardMemoryBytes, fileBytes, maxDefinitions, max
 use Rattle.rules.specs.Bytes.{isEmpty}
 use Rattle.rules.specs.Query.{alikeQuery, bodyQuery, levelQuery}
 use Rattle.rules.specs.Run.{Outcome, overwrite, refusal}
-use Rattle.context.specs.Store.{Store, store}
+use Rattle.store.specs.Store.{Store}
 use Rattle.context.specs.declared.Counts.{Counts}
 use Rattle.judge_plain.specs.declared.Phase.the-variants.{Outside}
 use Rattle.asking.specs.Reply.{outcomeOf}
@@ -43,24 +43,23 @@ module _ (q : Question) (expr levels file before : List ℕ) where
   ask-wrong-size after room wrong e =
       ap (λ (o : Outcome (Value q)). answer o after) (refused-in q 2 0) ∙ wrong-size-answer (replyOf q expr levels) file before after room wrong e
 
-  pub ask-concluded : (names facts contexts orders heads : List ℕ) (c : Counts) (refs words declared : List ℕ) (reply : Reply) (after : List ℕ) (r : Replied) → cardMemoryBytes ≤ length before
-      → isEmpty file ≡ false → length file ≤ fileBytes → Concludes file (store names facts contexts orders heads) c refs words declared reply before after
-      → AfterJudging reply q names facts contexts heads words after c expr levels r → Answers q file before expr levels r after
-  ask-concluded names facts contexts orders heads c refs words declared (judged.the-variants.Accepted n) after r room some fits x y =
-      let v = store names facts contexts orders heads in
+  pub ask-concluded : (v : Store) (c : Counts) (refs words : List ℕ) (reply : Reply) (after : List ℕ) (r : Replied) → cardMemoryBytes ≤ length before
+      → isEmpty file ≡ false → length file ≤ fileBytes → Concludes file v c refs words reply before after
+      → AfterJudging reply q v words after c expr levels r → Answers q file before expr levels r after
+  ask-concluded v c refs words (judged.the-variants.Accepted n) after r room some fits x y =
       let z = x .settles in
-      reached-answer (replyOf q expr levels) file before after v c refs words declared n (outcomeIn q r) room some fits z (x .leaves)
-      (y .reply file (z .fields) (z .state) (z .rows) Outside orders refs declared before (z .stands) (memory-filled file before after v c refs words declared n z (x .leaves)))
-  ask-concluded names facts contexts orders heads c refs words declared (judged.the-variants.Refused k p) after r room some fits x y =
+      reached-answer (replyOf q expr levels) file before after v c refs words n (outcomeIn q r) room some fits z (x .leaves)
+      (y .reply file (z .fields) (z .state) (z .rows) Outside refs before (z .stands) (memory-filled file before after v c refs words n z (x .leaves)))
+  ask-concluded v c refs words (judged.the-variants.Refused k p) after r room some fits x y =
       ap (λ (o : Outcome (Value q)). answer o after) (ap (outcomeIn q) y ∙ refused-in q k p)
       ∙ refused-answer (replyOf q expr levels) file before after k p room some fits (x .settles) (x .leaves)
 
 -- what a reply to a judged file keeps to
-pub bounded : (file : List ℕ) (v : Store) (c : Counts) (refs words declared : List ℕ) (reply : Reply) (before after : List ℕ)
-    → Concludes file v c refs words declared reply before after → Bounded reply c
-bounded file v c refs words declared (judged.the-variants.Accepted n) before after x =
+pub bounded : (file : List ℕ) (v : Store) (c : Counts) (refs words : List ℕ) (reply : Reply) (before after : List ℕ)
+    → Concludes file v c refs words reply before after → Bounded reply c
+bounded file v c refs words (judged.the-variants.Accepted n) before after x =
     (x .settles .stands .holds .sized .modules, x .settles .stands .holds .sized .definitions)
-bounded file v c refs words declared (judged.the-variants.Refused k p) before after x = tt
+bounded file v c refs words (judged.the-variants.Refused k p) before after x = tt
 
 -- by the reply to the check
 pub few-modules : (reply : Reply) (n : ℕ) (c : Counts) → reply ≡ judged.the-variants.Accepted n → Bounded reply c → c .modules ≤ maxModules
@@ -69,13 +68,13 @@ few-modules reply n c e b = subst (λ (y : Reply). Bounded y c) e b .0
 pub few-definitions : (reply : Reply) (n : ℕ) (c : Counts) → reply ≡ judged.the-variants.Accepted n → Bounded reply c → c .definitions ≤ maxDefinitions
 few-definitions reply n c e b = subst (λ (y : Reply). Bounded y c) e b .1
 
-module _ (reply : Reply) (q : Question) (names facts contexts heads words cards : List ℕ) (c : Counts) (expr levels : List ℕ) (r : Replied) where
-  pub after-accepted : (n : ℕ) → reply ≡ judged.the-variants.Accepted n → Replies q names facts contexts heads words cards c expr levels r
-      → AfterJudging reply q names facts contexts heads words cards c expr levels r
-  after-accepted n e x = subst⁻¹ (λ (y : Reply). AfterJudging y q names facts contexts heads words cards c expr levels r) e x
+module _ (reply : Reply) (q : Question) (v : Store) (words cards : List ℕ) (c : Counts) (expr levels : List ℕ) (r : Replied) where
+  pub after-accepted : (n : ℕ) → reply ≡ judged.the-variants.Accepted n → Replies q v words cards c expr levels r
+      → AfterJudging reply q v words cards c expr levels r
+  after-accepted n e x = subst⁻¹ (λ (y : Reply). AfterJudging y q v words cards c expr levels r) e x
 
-  pub after-refused : (k p : ℕ) → reply ≡ judged.the-variants.Refused k p → r ≡ Refused k p → AfterJudging reply q names facts contexts heads words cards c expr levels r
-  after-refused k p e x = subst⁻¹ (λ (y : Reply). AfterJudging y q names facts contexts heads words cards c expr levels r) e x
+  pub after-refused : (k p : ℕ) → reply ≡ judged.the-variants.Refused k p → r ≡ Refused k p → AfterJudging reply q v words cards c expr levels r
+  after-refused k p e x = subst⁻¹ (λ (y : Reply). AfterJudging y q v words cards c expr levels r) e x
 
 -- each query's own answer
 pub level-answered : (m : ℕ) (expr levels file before : List ℕ) (r : Replied) (after : List ℕ) (a : Asked) → Answers (Level m) file before expr levels r after → outcomeOf a ≡ levelIn r

@@ -8,7 +8,7 @@ use Rattle.limits.specs.Limits.{cardMemoryBytes, fileBytes}
 use Rattle.rules.specs.Bytes.{isEmpty}
 use Rattle.rules.specs.Query.{ExpansionAnswer, expansionReply, outputAfter}
 use Rattle.rules.specs.Run.{Answer, Outcome, afterCheck, andThen, overwrite, refusal, result}
-use Rattle.context.specs.Store.{store}
+use Rattle.store.specs.Store.{Store}
 use Rattle.context.specs.declared.Counts.{Counts}
 use Rattle.judge_plain.specs.declared.Phase.the-variants.{Outside}
 use Rattle.checker.proofs.Answers.{reached-answer, refused-answer, short-answer, wrong-size-answer}
@@ -50,27 +50,27 @@ module _ (m n : ℕ) (expr file before out : List ℕ) where
   expand-wrong-size after room wrong e =
       answered (refusal 2 0) (Refused 2 0) after out (wrong-size-answer (expansionReply m n expr (length out)) file before after room wrong e) (refl, refl)
 
-  pub expand-concluded : (names facts contexts orders heads : List ℕ) (c : Counts) (refs words declared : List ℕ) (reply : Reply) (after : List ℕ) (r : Expanded) (out′ : List ℕ)
+  pub expand-concluded : (v : Store) (c : Counts) (refs words : List ℕ) (reply : Reply) (after : List ℕ) (r : Expanded) (out′ : List ℕ)
       → cardMemoryBytes ≤ length before → isEmpty file ≡ false → length file ≤ fileBytes
-      → Concludes file (store names facts contexts orders heads) c refs words declared reply before after
-      → AfterExpanding reply file refs names facts contexts orders heads declared c m n expr r out out′ → Expanding file before m n expr out r after out′
-  expand-concluded names facts contexts orders heads c refs words declared (judged.the-variants.Accepted k) after r out′ room some fits x y =
+      → Concludes file v c refs words reply before after
+      → AfterExpanding reply file refs v c m n expr r out out′ → Expanding file before m n expr out r after out′
+  expand-concluded v c refs words (judged.the-variants.Accepted k) after r out′ room some fits x y =
       let z = x .settles in
       answered (expansionReply m n expr (length out) (z .state)) r after out′
-      (reached-answer (expansionReply m n expr (length out)) file before after (store names facts contexts orders heads) c refs words declared k
+      (reached-answer (expansionReply m n expr (length out)) file before after v c refs words k
       (expansionReply m n expr (length out) (z .state)) room some fits z (x .leaves) refl)
       (y .reply (z .fields) (z .state) (z .rows) Outside words (z .stands))
-  expand-concluded names facts contexts orders heads c refs words declared (judged.the-variants.Refused k p) after r out′ room some fits x y =
+  expand-concluded v c refs words (judged.the-variants.Refused k p) after r out′ room some fits x y =
       answered (refusal k p) r after out′
       (refused-answer (expansionReply m n expr (length out)) file before after k p room some fits (x .settles) (x .leaves))
       (subst⁻¹ (λ (q : Expanded). Reports (refusal k p) q out out′) (y .0) (refl, y .1))
 
 -- by the reply to the check
-module _ (reply : Reply) (file refs names facts contexts orders heads declared : List ℕ) (c : Counts) (m n : ℕ) (expr : List ℕ) (r : Expanded) (out out′ : List ℕ) where
-  pub expanded-accepted : (k : ℕ) → reply ≡ judged.the-variants.Accepted k → RepliesOf file refs names facts contexts orders heads declared c m n expr r out out′
-      → AfterExpanding reply file refs names facts contexts orders heads declared c m n expr r out out′
-  expanded-accepted k e x = subst⁻¹ (λ (y : Reply). AfterExpanding y file refs names facts contexts orders heads declared c m n expr r out out′) e x
+module _ (reply : Reply) (file refs : List ℕ) (v : Store) (c : Counts) (m n : ℕ) (expr : List ℕ) (r : Expanded) (out out′ : List ℕ) where
+  pub expanded-accepted : (k : ℕ) → reply ≡ judged.the-variants.Accepted k → RepliesOf file refs v c m n expr r out out′
+      → AfterExpanding reply file refs v c m n expr r out out′
+  expanded-accepted k e x = subst⁻¹ (λ (y : Reply). AfterExpanding y file refs v c m n expr r out out′) e x
 
   pub expanded-refused : (k p : ℕ) → reply ≡ judged.the-variants.Refused k p → r ≡ Refused k p → out′ ≡ out
-      → AfterExpanding reply file refs names facts contexts orders heads declared c m n expr r out out′
-  expanded-refused k p e x w = subst⁻¹ (λ (y : Reply). AfterExpanding y file refs names facts contexts orders heads declared c m n expr r out out′) e (x, w)
+      → AfterExpanding reply file refs v c m n expr r out out′
+  expanded-refused k p e x w = subst⁻¹ (λ (y : Reply). AfterExpanding y file refs v c m n expr r out out′) e (x, w)

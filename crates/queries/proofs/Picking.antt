@@ -7,7 +7,7 @@ use Prim.Native.Nat.{ℕ, _+_, _*_, _≤_, _<_}
 use lib.Dec.{leb}
 use lib.ListN.{getD}
 use Rattle.limits.specs.Sizes.{columnCount}
-use Rattle.context.specs.Store.{countAt, firstAt}
+use Rattle.store.specs.Store.{countAt, firstAt}
 use Rattle.queries.specs.Replies.{alikeAt, bodyAt, likeAt}
 use Rattle.queries.specs.declared.Replied.the-variants.{Compared, Located, Refused}
 use Rattle.queries.specs.declared.Replied.{Replied}

@@ -17,7 +17,7 @@ use Rattle.rules.specs.Run.{Outcome, andThen, card, memoryAfter, refusal, resul
 use Rattle.rules.specs.State.{Added, State, cardLevel, definitionAt, paramsOf}
 use Rattle.laws.proofs.Memory.{card-at, card-size}
 use Rattle.worlds.specs.Rows.{Row}
-use Rattle.context.specs.Store.{countAt, firstAt, store}
+use Rattle.store.specs.Store.{Store, countAt, firstAt}
 use Rattle.context.specs.declared.Counts.{Counts}
 use Rattle.judge_plain.specs.declared.Phase.{Phase}
 use Rattle.standing.specs.Standing.{Standing}
@@ -48,8 +48,8 @@ counts-too n m f g = twice (eqb n m) _
     twice true b = refl
     twice false b = refl
 
-module _ (file : List ℕ) (fs : List Field) (s : State) (rs : List Row) (names facts contexts orders heads : List ℕ) (c : Counts) (p : Phase) (refs words declared : List ℕ)
-    (stands : Standing file fs s rs (store names facts contexts orders heads) c p refs words declared) where
+module _ (file : List ℕ) (fs : List Field) (s : State) (rs : List Row) (v : Store) (c : Counts) (p : Phase) (refs words : List ℕ)
+    (stands : Standing file fs s rs v c p refs words) where
   counted : c .definitions ≡ length (s .definitions)
   counted = stands .holds .definitions
 
@@ -77,26 +77,26 @@ module _ (file : List ℕ) (fs : List Field) (s : State) (rs : List Row) (names 
     where
       go : (a b : Bool) → leb (c .definitions) g ≡ a → leb (c .definitions) h ≡ b
           → alikeIn (cond a (Refused 17 0) (cond b (Refused 17 0) (Compared (likeAt cards g h)))) ≡ alikeReply g h s
-      go true b u v =
+      go true b u w =
           let l : ltb g (length (s .definitions)) ≡ false = le-ltb g (length (s .definitions)) (omega (arith, counted, leb-true (c .definitions) g u)) in
           sym (ap (λ (x : Bool). alikeBy s g h x (ltb h (length (s .definitions)))) l)
-      go false true u v =
+      go false true u w =
           let l : ltb g (length (s .definitions)) ≡ true = lt-ltb g (length (s .definitions)) (omega (arith, counted, leb-false (c .definitions) g u)) in
-          let k : ltb h (length (s .definitions)) ≡ false = le-ltb h (length (s .definitions)) (omega (arith, counted, leb-true (c .definitions) h v)) in
+          let k : ltb h (length (s .definitions)) ≡ false = le-ltb h (length (s .definitions)) (omega (arith, counted, leb-true (c .definitions) h w)) in
           sym (ap₂ (alikeBy s g h) l k)
-      go false false u v =
+      go false false u w =
           let a = leb-false (c .definitions) g u in
-          let b = leb-false (c .definitions) h v in
+          let b = leb-false (c .definitions) h w in
           let l : ltb g (length (s .definitions)) ≡ true = lt-ltb g (length (s .definitions)) (omega (arith, counted)) in
           let k : ltb h (length (s .definitions)) ≡ true = lt-ltb h (length (s .definitions)) (omega (arith, counted)) in
           ap result (like-shown cards before e g h a b) ∙ sym (ap₂ (alikeBy s g h) l k)
 
   -- BODY. Of a brought definition the arrays keep the original's.
-  pub body-shown : (g : ℕ) → bodyIn (bodyAt facts (c .definitions) g) ≡ bodyReply g s
+  pub body-shown : (g : ℕ) → bodyIn (bodyAt (v .facts) (c .definitions) g) ≡ bodyReply g s
   unfolding bodyAt
   body-shown g = go (leb (c .definitions) g) refl
     where
-      go : (a : Bool) → leb (c .definitions) g ≡ a → bodyIn (cond a (Refused 17 0) (Located (firstAt facts g) (countAt facts g))) ≡ bodyReply g s
+      go : (a : Bool) → leb (c .definitions) g ≡ a → bodyIn (cond a (Refused 17 0) (Located (firstAt (v .facts) g) (countAt (v .facts) g))) ≡ bodyReply g s
       go true u = sym (ap (bodyBy s g) (le-ltb g (length (s .definitions)) (omega (arith, counted, leb-true (c .definitions) g u))))
       go false u =
           let a = leb-false (c .definitions) g u in
@@ -104,25 +104,25 @@ module _ (file : List ℕ) (fs : List Field) (s : State) (rs : List Row) (names 
           ∙ sym (ap (bodyBy s g) (lt-ltb g (length (s .definitions)) (omega (arith, counted))))
 
 -- by the question
-module _ (q : Question) (names facts contexts heads words cards : List ℕ) (c : Counts) (expr levels : List ℕ) (r : Replied) where
-  pub levelled : (m : ℕ) (a : Asked) → q ≡ Level m → Asks names facts contexts heads words c m levels expr a → levelIn r ≡ outcomeOf a
-      → Replies q names facts contexts heads words cards c expr levels r
+module _ (q : Question) (v : Store) (words cards : List ℕ) (c : Counts) (expr levels : List ℕ) (r : Replied) where
+  pub levelled : (m : ℕ) (a : Asked) → q ≡ Level m → Asks v words c m levels expr a → levelIn r ≡ outcomeOf a
+      → Replies q v words cards c expr levels r
   levelled m a e x f =
-      subst⁻¹ (λ (y : Question). Replies y names facts contexts heads words cards c expr levels r) e
-      (record { reply = λ file fs s rs p orders refs declared before stands filled. f ∙ x .reply file fs s rs p orders refs declared stands })
+      subst⁻¹ (λ (y : Question). Replies y v words cards c expr levels r) e
+      (record { reply = λ file fs s rs p refs before stands filled. f ∙ x .reply file fs s rs p refs stands })
 
-  pub compared : (g h : ℕ) → q ≡ Alike g h → r ≡ alikeAt cards (c .definitions) g h → Replies q names facts contexts heads words cards c expr levels r
+  pub compared : (g h : ℕ) → q ≡ Alike g h → r ≡ alikeAt cards (c .definitions) g h → Replies q v words cards c expr levels r
   compared g h e f =
-      subst⁻¹ (λ (y : Question). Replies y names facts contexts heads words cards c expr levels r) e
+      subst⁻¹ (λ (y : Question). Replies y v words cards c expr levels r) e
       (record {
-        reply = λ file fs s rs p orders refs declared before stands filled.
-            ap alikeIn f ∙ alike-shown file fs s rs names facts contexts orders heads c p refs words declared stands cards before filled g h;
+        reply = λ file fs s rs p refs before stands filled.
+            ap alikeIn f ∙ alike-shown file fs s rs v c p refs words stands cards before filled g h;
       })
 
-  pub located : (g : ℕ) → q ≡ Body g → r ≡ bodyAt facts (c .definitions) g → Replies q names facts contexts heads words cards c expr levels r
+  pub located : (g : ℕ) → q ≡ Body g → r ≡ bodyAt (v .facts) (c .definitions) g → Replies q v words cards c expr levels r
   located g e f =
-      subst⁻¹ (λ (y : Question). Replies y names facts contexts heads words cards c expr levels r) e
+      subst⁻¹ (λ (y : Question). Replies y v words cards c expr levels r) e
       (record {
-        reply = λ file fs s rs p orders refs declared before stands filled.
-            ap bodyIn f ∙ body-shown file fs s rs names facts contexts orders heads c p refs words declared stands g;
+        reply = λ file fs s rs p refs before stands filled.
+            ap bodyIn f ∙ body-shown file fs s rs v c p refs words stands g;
       })

@@ -10,7 +10,7 @@ use Rattle.rules.specs.Field.{Field}
 use Rattle.rules.specs.Run.{memoryAfter, result}
 use Rattle.rules.specs.State.{State}
 use Rattle.worlds.specs.Rows.{Row}
-use Rattle.context.specs.Store.{countAt, firstAt, store}
+use Rattle.store.specs.Store.{Store, countAt, firstAt}
 use Rattle.context.specs.declared.Counts.{Counts}
 use Rattle.judge_plain.specs.declared.Phase.{Phase}
 use Rattle.standing.specs.Standing.{Standing}
@@ -38,15 +38,15 @@ unfoldable pub bodyAt : List ℕ → ℕ → ℕ → Replied
 bodyAt facts n g = cond (leb n g) (Refused 17 0) (Located (firstAt facts g) (countAt facts g))
 
 -- The reply to a question is the rules', if the arrays and counts show a state that some fields lead to, and the cards are filled.
-pub record Replies (q : Question) (names facts contexts heads words cards : List ℕ) (c : Counts) (expr levels : List ℕ) (r : Replied) : Type 0 where
-  pub reply : (file : List ℕ) (fs : List Field) (s : State) (rs : List Row) (p : Phase) (orders refs declared before : List ℕ)
-      → Standing file fs s rs (store names facts contexts orders heads) c p refs words declared → cards ≡ memoryAfter (result s) before
+pub record Replies (q : Question) (v : Store) (words cards : List ℕ) (c : Counts) (expr levels : List ℕ) (r : Replied) : Type 0 where
+  pub reply : (file : List ℕ) (fs : List Field) (s : State) (rs : List Row) (p : Phase) (refs before : List ℕ)
+      → Standing file fs s rs v c p refs words → cards ≡ memoryAfter (result s) before
       → outcomeIn q r ≡ replyOf q expr levels s
 
 -- after the file was judged: its refusal stays
-abbrev pub AfterJudging : Reply → Question → List ℕ → List ℕ → List ℕ → List ℕ → List ℕ → List ℕ → Counts → List ℕ → List ℕ → Replied → Type 0
-AfterJudging (judged.the-variants.Accepted n) q names facts contexts heads words cards c expr levels r = Replies q names facts contexts heads words cards c expr levels r
-AfterJudging (judged.the-variants.Refused k p) q names facts contexts heads words cards c expr levels r = r ≡ Refused k p
+abbrev pub AfterJudging : Reply → Question → Store → List ℕ → List ℕ → Counts → List ℕ → List ℕ → Replied → Type 0
+AfterJudging (judged.the-variants.Accepted n) q v words cards c expr levels r = Replies q v words cards c expr levels r
+AfterJudging (judged.the-variants.Refused k p) q v words cards c expr levels r = r ≡ Refused k p
 
 -- the counts of a file that was accepted are within the limits
 abbrev pub Bounded : Reply → Counts → Type 0

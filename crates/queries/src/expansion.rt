@@ -3,16 +3,14 @@ ghost use mathlib.Core.Bool.{false, true};
 ghost use mathlib.Core.Path.{_≡_};
 ghost use Prim.Native.Nat.{_≤_};
 ghost use lib.ListN.{length};
-ghost use Rattle.limits.specs.Limits.{cardMemoryBytes, fileBytes, maxDeclarations, maxDefinitions};
-ghost use Rattle.limits.specs.Sizes.{codeCount};
-ghost use Rattle.context.proofs.Adds.{empty};
-ghost use Rattle.context.specs.Store.{store};
+ghost use Rattle.limits.specs.Limits.{cardMemoryBytes, fileBytes};
 ghost use Rattle.levels.specs.Tables.{tableWords};
 ghost use Rattle.rules.specs.Bytes.{isEmpty};
 ghost use Rattle.tokens.proofs.Writing.{Bytes};
 ghost use Rattle.checker.specs.Settles.{wrongSize};
 ghost use Rattle.queries.specs.Expanding.{AfterExpanding, Expanding};
 ghost use Rattle.queries.specs.Replies.{Bounded};
+ghost use Rattle.store.specs.Store.{empty, held};
 use cards::clear_cards;
 use checker::Reply;
 use checker::judge_in;
@@ -21,6 +19,8 @@ use context::Counts;
 use expanding::Expanded;
 use expanding::query::expand_reply;
 use limits::Limits;
+use store::Lent;
+use store::Store;
 
 // After the file was judged: its refusal, or the reply in the arrays, which then show the state that the file leads to.
 fn expand_after(
@@ -29,35 +29,16 @@ fn expand_after(
     params: u8,
     module: u16,
     file: &[u8],
-    refs: &[u16],
-    names: &[u16],
-    facts: &[u16],
-    contexts: &[u16],
-    orders: &[u16],
-    heads: &[u16],
-    declared: &[u16],
+    refs: &[u16; Lent::REFS],
+    store: &[u16; Store::LENGTH],
     c: Counts,
     out: &mut [u8],
 ) -> Expanded
     requires { ⌜ Bounded reply c × (length (now file) ≤ fileBytes) ⌝ }
-    ensures { λ r. ⌜ AfterExpanding reply (now (file .entry)) (now (refs .entry)) (now (names .entry)) (now (facts .entry)) (now (contexts .entry)) (now (orders .entry)) (now (heads .entry)) (now (declared .entry)) c «module» params (now (expr .entry)) r (now (out .entry)) (now (out .exit)) ⌝ }
+    ensures { λ r. ⌜ AfterExpanding reply (now (file .entry)) (now (refs .entry)) (held (now (store .entry))) c «module» params (now (expr .entry)) r (now (out .entry)) (now (out .exit)) ⌝ }
 {
     match reply {
-        Reply::Accepted(_) => expand_reply(
-            expr,
-            params,
-            module,
-            file,
-            refs,
-            names,
-            facts,
-            contexts,
-            orders,
-            heads,
-            declared,
-            c,
-            out,
-        ),
+        Reply::Accepted(_) => expand_reply(expr, params, module, file, refs, store, c, out),
         Reply::Refused(k, p) => Expanded::Refused(k, p),
     }
 }
@@ -69,53 +50,18 @@ fn expand_in(
     module: u16,
     file: &[u8],
     cards: &mut [u8],
-    names: &mut [u16],
-    facts: &mut [u16],
-    contexts: &mut [u16],
-    orders: &mut [u16],
-    heads: &mut [u16],
-    refs: &mut [u16],
-    words: &mut [u64],
-    declared: &mut [u16],
-    marks: &mut [u16],
-    tally: &mut [u16],
+    store: &mut [u16; Store::LENGTH],
+    refs: &mut [u16; Lent::REFS],
+    words: &mut [u64; Lent::WORDS],
     out: &mut [u8],
 ) -> Expanded
-    requires { ⌜ (cardMemoryBytes ≤ length (now cards)) × (isEmpty (now file) ≡ false) × (length (now file) ≤ fileBytes) × Bytes (now file) × (store (now names) (now facts) (now contexts) (now orders) (now heads) ≡ empty) × (length (now refs) ≡ fileBytes) × (length (now words) ≡ tableWords) × (length (now declared) ≡ maxDeclarations) × (length (now marks) ≡ codeCount) × (length (now tally) ≡ maxDefinitions) ⌝ }
+    requires { ⌜ (cardMemoryBytes ≤ length (now cards)) × (isEmpty (now file) ≡ false) × (length (now file) ≤ fileBytes) × Bytes (now file) × (held (now store) ≡ empty) × (length (now refs) ≡ fileBytes) × (length (now words) ≡ tableWords) ⌝ }
     ensures { λ r. ⌜ Expanding (now (file .entry)) (now (cards .entry)) «module» params (now (expr .entry)) (now (out .entry)) r (now (cards .exit)) (now (out .exit)) ⌝ }
 {
-    let verdict = judge_in(
-        file,
-        cards,
-        names,
-        facts,
-        contexts,
-        orders,
-        heads,
-        refs,
-        words,
-        declared,
-        marks,
-        tally,
-    );
+    let verdict = judge_in(file, cards, store, refs, words);
     let reply = verdict.reply;
     let counts = verdict.counts;
-    expand_after(
-        reply,
-        expr,
-        params,
-        module,
-        file,
-        refs,
-        names,
-        facts,
-        contexts,
-        orders,
-        heads,
-        declared,
-        counts,
-        out,
-    )
+    expand_after(reply, expr, params, module, file, refs, store, counts, out)
 }
 
 // A file of lawful size.
@@ -130,32 +76,18 @@ fn expand_fields(
     requires { ⌜ (cardMemoryBytes ≤ length (now cards)) × (isEmpty (now file) ≡ false) × (length (now file) ≤ fileBytes) × Bytes (now file) ⌝ }
     ensures { λ r. ⌜ Expanding (now (file .entry)) (now (cards .entry)) «module» params (now (expr .entry)) (now (out .entry)) r (now (cards .exit)) (now (out .exit)) ⌝ }
 {
-    let mut names = Limits::no_names();
-    let mut facts = Limits::no_facts();
-    let mut contexts = Limits::no_contexts();
-    let mut orders = Limits::no_orders();
-    let mut heads = Limits::no_heads();
-    let mut refs = [0u16; Limits::FILE_BYTES];
-    let mut words = [0u64; Limits::DEFINITIONS + Limits::DECLARATIONS];
-    let mut declared = [0u16; Limits::DECLARATIONS];
-    let mut marks = [0u16; Limits::CODES];
-    let mut tally = [0u16; Limits::DEFINITIONS];
+    let mut store = Limits::empty_context();
+    let mut refs = [0u16; Lent::REFS];
+    let mut words = [0u64; Lent::WORDS];
     expand_in(
         expr,
         params,
         module,
         file,
         cards,
-        &mut names,
-        &mut facts,
-        &mut contexts,
-        &mut orders,
-        &mut heads,
+        &mut store,
         &mut refs,
         &mut words,
-        &mut declared,
-        &mut marks,
-        &mut tally,
         out,
     )
 }

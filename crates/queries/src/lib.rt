@@ -6,10 +6,7 @@ ghost use mathlib.Core.Bool.{false, true};
 ghost use mathlib.Core.Path.{_≡_};
 ghost use Prim.Native.Nat.{_≤_};
 ghost use lib.ListN.{length};
-ghost use Rattle.limits.specs.Limits.{cardMemoryBytes, fileBytes, maxDeclarations, maxDefinitions};
-ghost use Rattle.limits.specs.Sizes.{codeCount};
-ghost use Rattle.context.proofs.Adds.{empty};
-ghost use Rattle.context.specs.Store.{store};
+ghost use Rattle.limits.specs.Limits.{cardMemoryBytes, fileBytes};
 ghost use Rattle.levels.specs.Tables.{tableWords};
 ghost use Rattle.rules.specs.Bytes.{isEmpty};
 ghost use Rattle.rules.specs.Query.{alikeQuery, bodyQuery, levelQuery};
@@ -20,6 +17,7 @@ ghost use Rattle.checker.specs.Settles.{wrongSize};
 ghost use Rattle.queries.specs.Question.{Answers, alikeIn, bodyIn, levelIn};
 ghost use Rattle.queries.specs.Replies.{AfterJudging, Bounded};
 ghost use Rattle.queries.specs.Reply.{alikeOutcome, bodyOutcome};
+ghost use Rattle.store.specs.Store.{empty, held};
 use asking::Asked;
 use cards::clear_cards;
 use checker::Reply;
@@ -28,6 +26,8 @@ use checker::wrong_size;
 use context::Counts;
 use limits::Limits;
 use replies::reply_to;
+use store::Lent;
+use store::Store;
 
 // What is asked of a file: the level of an expression at the end of the module of that name, the expression and its parameters' levels
 // standing beside; whether two definitions are alike; where a definition's body stands. "A definition is given by its number, a module by its name."
@@ -62,30 +62,16 @@ fn reply_after(
     question: Question,
     expr: &[u8],
     levels: &[u8],
-    names: &[u16],
-    facts: &[u16],
-    contexts: &[u16],
-    heads: &[u16],
-    words: &[u64],
+    store: &[u16; Store::LENGTH],
+    words: &[u64; Lent::WORDS],
     cards: &[u8],
     c: Counts,
 ) -> Replied
-    requires { ⌜ Bounded reply c × (length (now words) ≡ tableWords) × (cardMemoryBytes ≤ length (now cards)) ⌝ }
-    ensures { λ r. ⌜ AfterJudging reply question (now (names .entry)) (now (facts .entry)) (now (contexts .entry)) (now (heads .entry)) (now (words .entry)) (now (cards .entry)) c (now (expr .entry)) (now (levels .entry)) r ⌝ }
+    requires { ⌜ Bounded reply c × (cardMemoryBytes ≤ length (now cards)) ⌝ }
+    ensures { λ r. ⌜ AfterJudging reply question (held (now (store .entry))) (now (words .entry)) (now (cards .entry)) c (now (expr .entry)) (now (levels .entry)) r ⌝ }
 {
     match reply {
-        Reply::Accepted(_) => reply_to(
-            question,
-            expr,
-            levels,
-            names,
-            facts,
-            contexts,
-            heads,
-            words,
-            cards,
-            c,
-        ),
+        Reply::Accepted(_) => reply_to(question, expr, levels, store, words, cards, c),
         Reply::Refused(k, p) => Replied::Refused(k, p),
     }
 }
@@ -97,49 +83,17 @@ fn ask_in(
     levels: &[u8],
     file: &[u8],
     cards: &mut [u8],
-    names: &mut [u16],
-    facts: &mut [u16],
-    contexts: &mut [u16],
-    orders: &mut [u16],
-    heads: &mut [u16],
-    refs: &mut [u16],
-    words: &mut [u64],
-    declared: &mut [u16],
-    marks: &mut [u16],
-    tally: &mut [u16],
+    store: &mut [u16; Store::LENGTH],
+    refs: &mut [u16; Lent::REFS],
+    words: &mut [u64; Lent::WORDS],
 ) -> Replied
-    requires { ⌜ (cardMemoryBytes ≤ length (now cards)) × (isEmpty (now file) ≡ false) × (length (now file) ≤ fileBytes) × Bytes (now file) × (store (now names) (now facts) (now contexts) (now orders) (now heads) ≡ empty) × (length (now refs) ≡ fileBytes) × (length (now words) ≡ tableWords) × (length (now declared) ≡ maxDeclarations) × (length (now marks) ≡ codeCount) × (length (now tally) ≡ maxDefinitions) ⌝ }
+    requires { ⌜ (cardMemoryBytes ≤ length (now cards)) × (isEmpty (now file) ≡ false) × (length (now file) ≤ fileBytes) × Bytes (now file) × (held (now store) ≡ empty) × (length (now refs) ≡ fileBytes) × (length (now words) ≡ tableWords) ⌝ }
     ensures { λ r. ⌜ Answers question (now (file .entry)) (now (cards .entry)) (now (expr .entry)) (now (levels .entry)) r (now (cards .exit)) ⌝ }
 {
-    let verdict = judge_in(
-        file,
-        cards,
-        names,
-        facts,
-        contexts,
-        orders,
-        heads,
-        refs,
-        words,
-        declared,
-        marks,
-        tally,
-    );
+    let verdict = judge_in(file, cards, store, refs, words);
     let reply = verdict.reply;
     let counts = verdict.counts;
-    reply_after(
-        reply,
-        question,
-        expr,
-        levels,
-        names,
-        facts,
-        contexts,
-        heads,
-        words,
-        cards,
-        counts,
-    )
+    reply_after(reply, question, expr, levels, store, words, cards, counts)
 }
 
 // A file of lawful size.
@@ -153,32 +107,18 @@ fn ask_fields(
     requires { ⌜ (cardMemoryBytes ≤ length (now cards)) × (isEmpty (now file) ≡ false) × (length (now file) ≤ fileBytes) × Bytes (now file) ⌝ }
     ensures { λ r. ⌜ Answers question (now (file .entry)) (now (cards .entry)) (now (expr .entry)) (now (levels .entry)) r (now (cards .exit)) ⌝ }
 {
-    let mut names = Limits::no_names();
-    let mut facts = Limits::no_facts();
-    let mut contexts = Limits::no_contexts();
-    let mut orders = Limits::no_orders();
-    let mut heads = Limits::no_heads();
-    let mut refs = [0u16; Limits::FILE_BYTES];
-    let mut words = [0u64; Limits::DEFINITIONS + Limits::DECLARATIONS];
-    let mut declared = [0u16; Limits::DECLARATIONS];
-    let mut marks = [0u16; Limits::CODES];
-    let mut tally = [0u16; Limits::DEFINITIONS];
+    let mut store = Limits::empty_context();
+    let mut refs = [0u16; Lent::REFS];
+    let mut words = [0u64; Lent::WORDS];
     ask_in(
         question,
         expr,
         levels,
         file,
         cards,
-        &mut names,
-        &mut facts,
-        &mut contexts,
-        &mut orders,
-        &mut heads,
+        &mut store,
         &mut refs,
         &mut words,
-        &mut declared,
-        &mut marks,
-        &mut tally,
     )
 }
 

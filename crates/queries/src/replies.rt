@@ -3,17 +3,19 @@ ghost use mathlib.Core.Path.{_≡_};
 ghost use Prim.Native.Nat.{_≤_, _<_};
 ghost use lib.ListN.{length};
 ghost use Rattle.limits.specs.Limits.{cardMemoryBytes, maxDefinitions, maxModules};
-ghost use Rattle.levels.specs.Tables.{tableWords};
 ghost use Rattle.asking.specs.Reply.{outcomeOf};
 ghost use Rattle.queries.specs.Question.{levelIn};
 ghost use Rattle.queries.specs.Replies.{Replies, alikeAt, bodyAt, likeAt};
+ghost use Rattle.store.specs.Store.{held};
 use crate::Question;
 use crate::Replied;
 use asking::Asked;
 use asking::level_reply;
 use context::Counts;
-use context::lists::number_at;
 use limits::Limits;
+use store::Lent;
+use store::Store;
+use store::reading::fact_at;
 
 // "when parameter counts and cards agree": whether the cards of two definitions are the same, byte by byte of the filled card memory; byte 0 is
 // the count.
@@ -54,16 +56,16 @@ fn wide(x: u16) -> usize
 }
 
 // Where the body of one of n definitions stands: of a brought one the arrays keep where the original's does.
-fn body_reply(facts: &[u16], n: usize, d: u32) -> Replied
+fn body_reply(store: &[u16; Store::LENGTH], n: usize, d: u32) -> Replied
     requires { ⌜ n ≤ maxDefinitions ⌝ }
-    ensures { λ r. ⌜ r ≡ bodyAt (now (facts .entry)) n d ⌝ }
+    ensures { λ r. ⌜ r ≡ bodyAt (held (now (store .entry)) .facts) n d ⌝ }
 {
     let g = d as usize;
     if n <= g {
         return Replied::Refused(17, 0);
     }
-    let start = wide(number_at(facts, Limits::COLUMNS * g + 1));
-    let size = wide(number_at(facts, Limits::COLUMNS * g + 2));
+    let start = wide(fact_at(store, Limits::COLUMNS * g + 1));
+    let size = wide(fact_at(store, Limits::COLUMNS * g + 2));
     Replied::Located(start, size)
 }
 
@@ -81,30 +83,17 @@ pub fn reply_to(
     question: Question,
     expr: &[u8],
     levels: &[u8],
-    names: &[u16],
-    facts: &[u16],
-    contexts: &[u16],
-    heads: &[u16],
-    words: &[u64],
+    store: &[u16; Store::LENGTH],
+    words: &[u64; Lent::WORDS],
     cards: &[u8],
     c: Counts,
 ) -> Replied
-    requires { ⌜ (c .modules ≤ maxModules) × (c .definitions ≤ maxDefinitions) × (length (now words) ≡ tableWords) × (cardMemoryBytes ≤ length (now cards)) ⌝ }
-    ensures { λ r. ⌜ Replies question (now (names .entry)) (now (facts .entry)) (now (contexts .entry)) (now (heads .entry)) (now (words .entry)) (now (cards .entry)) c (now (expr .entry)) (now (levels .entry)) r ⌝ }
+    requires { ⌜ (c .modules ≤ maxModules) × (c .definitions ≤ maxDefinitions) × (cardMemoryBytes ≤ length (now cards)) ⌝ }
+    ensures { λ r. ⌜ Replies question (held (now (store .entry))) (now (words .entry)) (now (cards .entry)) c (now (expr .entry)) (now (levels .entry)) r ⌝ }
 {
     match question {
-        Question::Level(m) => of_level(level_reply(
-            expr,
-            levels,
-            m,
-            names,
-            facts,
-            contexts,
-            heads,
-            words,
-            c,
-        )),
+        Question::Level(m) => of_level(level_reply(expr, levels, m, store, words, c)),
         Question::Alike(a, b) => alike_reply(cards, c.definitions, a, b),
-        Question::Body(d) => body_reply(facts, c.definitions, d),
+        Question::Body(d) => body_reply(store, c.definitions, d),
     }
 }

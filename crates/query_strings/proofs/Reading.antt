@@ -15,7 +15,7 @@ use Rattle.tokens.specs.declared.Token.{Token}
 use Rattle.tokens.proofs.Places.{never}
 use Rattle.agree.specs.Folds.{searching}
 use Rattle.context.specs.Parts.{part}
-use Rattle.context.specs.Store.{contextCodes}
+use Rattle.context.specs.Entries.{contextCodes}
 use Rattle.standing.specs.Standing.{itselves}
 use Rattle.resolve.specs.Look.{lookIn}
 use Rattle.resolve.specs.Walk.{inside, numberIn, numberOf, unknownIn}
@@ -26,7 +26,7 @@ use Rattle.skimming.specs.Kept.{KeptWorth}
 use Rattle.skimming.specs.Skims.{Skims}
 use Rattle.symbols.specs.Symbol.{bytesOf}
 use Rattle.symbols.specs.Spell.{spell}
-use Rattle.unfolding.specs.InWorld.{Place, termIn}
+use Rattle.unfolding.specs.InWorld.{Setting, termIn}
 use Rattle.spelling.specs.Parts.{Closed, Opened, isWritten}
 use Rattle.spelling.specs.Strings.{QueryString, byContext}
 use Rattle.spelling.specs.Written.{AllWrote, ArgumentWrote, Headed, Wrote, declarationsIn, placeOf, shapeIn}
@@ -36,7 +36,7 @@ use Rattle.spelling.proofs.Showing.{found-put, spells-text}
 use Rattle.spelling.proofs.Walking.{args-more, args-none, argument-wrote, wrote-token}
 use Rattle.query_strings.specs.Reads.{Joins, Over, Reads, ReadsAll, ReadsArgument, ReadsHead, Stands}
 use Rattle.query_strings.specs.Read.{QueryRead}
-use Rattle.query_strings.specs.declared.Head.{Head}
+use Rattle.query_strings.specs.declared.TokenHead.{TokenHead}
 use Rattle.query_strings.specs.declared.Queried.{Queried}
 use Rattle.query_strings.specs.declared.Read.{Read}
 use Rattle.query_strings.proofs.Skimming.{all-lost, all-more, all-none, skims-count, skims-limit, skims-nothing, skims-token}
@@ -56,7 +56,7 @@ head-put names facts cs declared numbers shapes t l r level outer rest out q out
     record { look = el; put = rw (hl, ho, e) at h }
 
 -- what is read where there is no room, and where nothing is written
-module _ (G : Algebra ℕ Bool Bool) (e : ℕ) (look : ℕ → Token → ℕ) (σ : ℕ → ℕ) (decls : Declarations) (P : Place) where
+module _ (G : Algebra ℕ Bool Bool) (e : ℕ) (look : ℕ → Token → ℕ) (σ : ℕ → ℕ) (decls : Declarations) (P : Setting) where
   wrote-past : (x : Found) (b v : Bool) (y : ℕ) (out : List ℕ) (q to : ℕ) → KeptWorth G e x b v y → b ≡ true → length out < q → to ≡ q
       → Wrote look σ decls P x out q out to y
   unfolding KeptWorth Wrote
@@ -80,7 +80,7 @@ module _ (names facts cs declared numbers shapes : List ℕ) (p : ℕ) where
   abbrev decls : Declarations
   decls = declarationsIn names declared
 
-  abbrev P : Place
+  abbrev P : Setting
   P = placeOf 0 0 numbers
 
   -- an expression
@@ -105,7 +105,7 @@ module _ (names facts cs declared numbers shapes : List ℕ) (p : ℕ) where
         (h .unknown) k l et;
   }
 
-  pub reads-token : (e n : ℕ) (s : List ℕ) (at : ℕ) (out : List ℕ) (q : ℕ) (t : Token) (k : ℕ) (out₁ : List ℕ) (h : Head) (start last : ℕ) (out₂ : List ℕ) (a : Read) (x : Looked)
+  pub reads-token : (e n : ℕ) (s : List ℕ) (at : ℕ) (out : List ℕ) (q : ℕ) (t : Token) (k : ℕ) (out₁ : List ℕ) (h : TokenHead) (start last : ℕ) (out₂ : List ℕ) (a : Read) (x : Looked)
       → Stands s at n t k → ReadsHead names facts cs declared numbers shapes t out q out₁ h → start ≡ at + widthOf t → last ≡ inside t e
       → ReadsAll names facts cs declared numbers shapes p e last (several (exprAt (n - 1) s) start k) k (h .rest) out₁ out₂ a → Over t (h .look) p e (a .looked) x
       → Reads names facts cs declared numbers shapes p e (exprAt n s at) out q out₂ record { kept = a .kept; looked = x; to = a .to }
@@ -179,7 +179,7 @@ query-string : (expr names facts cs declared numbers shapes : List ℕ) (out out
 query-string expr names facts cs declared numbers shapes out out′ q′ x fits bytes names-fit own w f l =
     let e : fits ≡ leb q′ (length out) = f ∙ ap (leb q′) l in
     let look : ℕ → Token → ℕ = byContext names facts cs in
-    let P : Place = placeOf 0 0 itselves in
+    let P : Setting = placeOf 0 0 itselves in
     let w′ : Wrote look (shapeIn shapes) (declarationsIn names declared) P (exprAt maxNesting expr 0) out 0 out′ q′ x = rw own at w in
     record {
       string = λ decls t y p below few shown fit narrow.

@@ -15,7 +15,7 @@ use Rattle.skimming.specs.Skims.{Skims, SkimsAll}
 use Rattle.spelling.specs.Strings.{byContext}
 use Rattle.spelling.specs.Written.{AllWrote, ArgumentWrote, Headed, Wrote, declarationsIn, placeOf, shapeIn}
 use Rattle.spelling.specs.declared.Rest.{Rest}
-use Rattle.query_strings.specs.declared.Head.{Head}
+use Rattle.query_strings.specs.declared.TokenHead.{TokenHead}
 use Rattle.query_strings.specs.declared.Read.{Read}
 
 -- An expression: whether it keeps the limits, its causes and its end; and if it keeps them, its string is put from q on.
@@ -47,7 +47,7 @@ pub record Stands (s : List ℕ) (at nest : ℕ) (t : Token) (k : ℕ) : Type 0 
   pub few : k ≤ maxArity
 
 -- a token is looked up, and its first symbols are put
-pub record ReadsHead (names facts cs declared numbers shapes : List ℕ) (t : Token) (out : List ℕ) (q : ℕ) (out′ : List ℕ) (h : Head) : Type 0 where
+pub record ReadsHead (names facts cs declared numbers shapes : List ℕ) (t : Token) (out : List ℕ) (q : ℕ) (out′ : List ℕ) (h : TokenHead) : Type 0 where
   pub look : h .look ≡ lookIn names facts cs t
   pub put : Headed (shapeIn shapes) (declarationsIn names declared) (placeOf 0 0 numbers) t (numberIn names facts cs t) out q out′ (h .rest .all) (h .rest .mask)
       (h .rest .binds) (h .rest .to)

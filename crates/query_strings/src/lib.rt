@@ -8,22 +8,23 @@ ghost use mathlib.Core.Path.{_≡_};
 ghost use lib.ListN.{length};
 ghost use Rattle.limits.specs.Limits.{maxModules};
 ghost use Rattle.context.specs.Parts.{part};
-ghost use Rattle.context.specs.Store.{contextCodes, wordCount};
-ghost use Rattle.tables.specs.Brought.{nextBytes};
-ghost use Rattle.tables.specs.Names.{Zeroed, nameBytes};
+ghost use Rattle.context.specs.Entries.{contextCodes, wordCount};
 ghost use Rattle.tables.specs.Serves.{Serves};
 ghost use Rattle.query_strings.specs.Read.{QueryRead};
+ghost use Rattle.store.specs.Store.{held};
 use crate::walk::read_expr;
-use context::lists::number_at;
 use levels::names::identity;
 use limits::Limits;
 use resolve::Look;
 use resolve::Looked;
-use skimming::Place;
+use skimming::ContextAt;
+use skimming::Spot;
 use spelling::Rest;
+use spelling::names_fit;
+use store::Store;
+use store::reading::head_at;
 use tables::Long;
-use tables::brought;
-use tables::names;
+use tables::Tables;
 
 // Of an expression: whether it keeps the limits; and if it does, whether its names are known and rightly counted, and the position after it;
 // whether there was room for its string, and the string's length.
@@ -35,7 +36,7 @@ pub struct Queried {
 }
 
 // What a token was resolved to, and what is left to be written of its arguments.
-pub struct Head {
+pub struct TokenHead {
     pub look: Look,
     pub rest: Rest,
 }
@@ -48,43 +49,28 @@ pub struct Read {
     pub to: usize,
 }
 
-// The expression that the bytes begin with, by tables of names that may be empty.
+// The expression that the bytes begin with, by tables or none.
 fn read_with(
     expr: &[u8],
-    column: &[u16],
-    table: &[u8],
-    nexts: &[u8],
-    contexts: &[u16],
-    names: &[u16],
-    facts: &[u16],
-    declared: &[u16],
+    tables: &[u8],
+    store: &[u16; Store::LENGTH],
     shapes: &[u32],
-    p: Place,
+    p: ContextAt,
     out: &mut [u8],
 ) -> Queried
-    requires { ⌜ Serves (now names) (now contexts) (now column) (now table) (now nexts) (p .from) (p .end) ⌝ }
-    ensures { λ r. ⌜ QueryRead (now (expr .entry)) (now (names .entry)) (now (facts .entry)) (part (now (contexts .entry)) (p .from) (p .end - p .from)) (now (declared .entry)) (now (shapes .entry)) (p .params) (now (out .exit)) (length (now (out .entry))) r ⌝ }
+    requires { ⌜ Serves (held (now store)) (now tables) (p .from) (p .end) ⌝ }
+    ensures { λ r. ⌜ QueryRead (now (expr .entry)) (held (now (store .entry)) .names) (held (now (store .entry)) .facts) (part (held (now (store .entry)) .contexts) (p .from) (p .end - p .from)) (held (now (store .entry)) .declared) (now (shapes .entry)) (p .params) (now (out .exit)) (length (now (out .entry))) r ⌝ }
 {
+    names_fit(store);
+    let column = rows::row_column();
     let mut own = [0u16; Limits::DEFINITIONS];
     identity(&mut own);
-    let a = read_expr(
-        expr,
-        column,
-        table,
-        nexts,
-        contexts,
-        names,
-        facts,
-        declared,
-        &own,
-        shapes,
-        out,
-        0,
-        Limits::NESTING,
-        p,
-        0,
-        0,
-    );
+    let e = Spot {
+        at: 0,
+        nest: Limits::NESTING,
+        bound: 0,
+    };
+    let a = read_expr(expr, &column, tables, store, &own, shapes, out, p, e, 0);
     let kept = a.kept;
     let looked = a.looked;
     let len = a.to;
@@ -96,111 +82,58 @@ fn read_with(
     }
 }
 
-// The same with no tables of names, which costs less where the expression is short.
+// The same with no tables, which costs less where the expression is short.
 fn read_short(
     expr: &[u8],
-    contexts: &[u16],
-    names: &[u16],
-    facts: &[u16],
-    declared: &[u16],
+    store: &[u16; Store::LENGTH],
     shapes: &[u32],
-    p: Place,
+    p: ContextAt,
     out: &mut [u8],
 ) -> Queried
     requires { ⌜ p .from < 2 ^ 32 ⌝ }
-    ensures { λ r. ⌜ QueryRead (now (expr .entry)) (now (names .entry)) (now (facts .entry)) (part (now (contexts .entry)) (p .from) (p .end - p .from)) (now (declared .entry)) (now (shapes .entry)) (p .params) (now (out .exit)) (length (now (out .entry))) r ⌝ }
+    ensures { λ r. ⌜ QueryRead (now (expr .entry)) (held (now (store .entry)) .names) (held (now (store .entry)) .facts) (part (held (now (store .entry)) .contexts) (p .from) (p .end - p .from)) (held (now (store .entry)) .declared) (now (shapes .entry)) (p .params) (now (out .exit)) (length (now (out .entry))) r ⌝ }
 {
-    let column = rows::row_column();
-    let table = [0u8; 1];
-    let nexts = [0u8; 1];
-    read_with(
-        expr,
-        &column,
-        &table[..0],
-        &nexts[..0],
-        contexts,
-        names,
-        facts,
-        declared,
-        shapes,
-        p,
-        out,
-    )
+    read_with(expr, &expr[..0], store, shapes, p, out)
 }
 
 // The same with the tables filled.
 fn read_long(
     expr: &[u8],
-    contexts: &[u16],
-    names: &[u16],
-    facts: &[u16],
-    declared: &[u16],
+    store: &[u16; Store::LENGTH],
     shapes: &[u32],
-    p: Place,
-    table: &mut [u8],
-    nexts: &mut [u8],
+    p: ContextAt,
     out: &mut [u8],
 ) -> Queried
-    requires { ⌜ (length (now table) ≡ nameBytes) × Zeroed (now table) × (length (now nexts) ≡ nextBytes) × (p .from < 2 ^ 32) × (p .from ≤ p .end) × (p .end - p .from < wordCount) ⌝ }
-    ensures { λ r. ⌜ QueryRead (now (expr .entry)) (now (names .entry)) (now (facts .entry)) (part (now (contexts .entry)) (p .from) (p .end - p .from)) (now (declared .entry)) (now (shapes .entry)) (p .params) (now (out .exit)) (length (now (out .entry))) r ⌝ }
+    requires { ⌜ (p .from < 2 ^ 32) × (p .from ≤ p .end) × (p .end - p .from < wordCount) ⌝ }
+    ensures { λ r. ⌜ QueryRead (now (expr .entry)) (held (now (store .entry)) .names) (held (now (store .entry)) .facts) (part (held (now (store .entry)) .contexts) (p .from) (p .end - p .from)) (held (now (store .entry)) .declared) (now (shapes .entry)) (p .params) (now (out .exit)) (length (now (out .entry))) r ⌝ }
 {
-    let column = rows::row_column();
-    names::fill(names, contexts, table, p.from, p.end);
-    brought::fill(names, nexts);
-    read_with(
-        expr,
-        &column,
-        table,
-        nexts,
-        contexts,
-        names,
-        facts,
-        declared,
-        shapes,
-        p,
-        out,
-    )
+    let mut tables = [0u8; Tables::BYTES];
+    tables::fill(store, &mut tables, p.from, p.end);
+    read_with(expr, &tables, store, shapes, p, out)
 }
 
-// The expression that the bytes begin with, its names looked up in the context of module m. The memory of the two tables is lent to work in.
+// The expression that the bytes begin with, its names looked up in the context of module m.
 pub fn query_string(
     expr: &[u8],
-    names: &[u16],
-    facts: &[u16],
-    contexts: &[u16],
-    heads: &[u16],
-    declared: &[u16],
+    store: &[u16; Store::LENGTH],
     shapes: &[u32],
     m: usize,
     params: usize,
-    table: &mut [u8],
-    nexts: &mut [u8],
     out: &mut [u8],
 ) -> Queried
-    requires { ⌜ (m ≤ maxModules) × (length (now table) ≡ nameBytes) × Zeroed (now table) × (length (now nexts) ≡ nextBytes) ⌝ }
-    ensures { λ r. ⌜ QueryRead (now (expr .entry)) (now (names .entry)) (now (facts .entry)) (contextCodes (now (contexts .entry)) (now (heads .entry)) m) (now (declared .entry)) (now (shapes .entry)) params (now (out .exit)) (length (now (out .entry))) r ⌝ }
+    requires { ⌜ m ≤ maxModules ⌝ }
+    ensures { λ r. ⌜ QueryRead (now (expr .entry)) (held (now (store .entry)) .names) (held (now (store .entry)) .facts) (contextCodes (held (now (store .entry)) .contexts) (held (now (store .entry)) .heads) m) (held (now (store .entry)) .declared) (now (shapes .entry)) params (now (out .exit)) (length (now (out .entry))) r ⌝ }
 {
     let from = m * Limits::CONTEXT;
-    let count = number_at(heads, Limits::PLACES + m) as usize;
-    let p = Place {
+    let count = head_at(store, Limits::PLACES + m) as usize;
+    let p = ContextAt {
         from,
         end: from + count,
         params,
     };
     if expr.len() < Long::BYTES {
-        read_short(expr, contexts, names, facts, declared, shapes, p, out)
+        read_short(expr, store, shapes, p, out)
     } else {
-        read_long(
-            expr,
-            contexts,
-            names,
-            facts,
-            declared,
-            shapes,
-            p,
-            table,
-            nexts,
-            out,
-        )
+        read_long(expr, store, shapes, p, out)
     }
 }

@@ -3,14 +3,16 @@
 ghost use mathlib.Core.Path.{_≡_};
 ghost use mathlib.Core.Bool.{false, true};
 ghost use Prim.Native.Nat.{_+_, _-_, _<_};
+ghost use Rattle.rows.specs.Numbers.{rowColumn};
 ghost use Rattle.context.specs.Parts.{part};
 ghost use Rattle.resolve.specs.Walk.{wordCount};
 ghost use Rattle.tokens.specs.Expr.{exprAt, several};
 ghost use Rattle.skimming.specs.Skims.{Skims};
 ghost use Rattle.tables.specs.Serves.{Serves};
 ghost use Rattle.query_strings.specs.Reads.{Joins, Reads, ReadsAll, ReadsArgument, ReadsHead, Stands};
-use crate::Head;
+ghost use Rattle.store.specs.Store.{held};
 use crate::Read;
+use crate::TokenHead;
 use crate::steps::after_token;
 use crate::steps::join;
 use crate::steps::over;
@@ -18,16 +20,19 @@ use limits::Limits;
 use resolve::steps::bound_in;
 use resolve::steps::nothing;
 use resolve::steps::number_of;
-use skimming::Place;
+use skimming::Args;
+use skimming::ContextAt;
+use skimming::Spot;
 use skimming::bound_inside;
 use skimming::skim_expr;
+use spelling::ChainDepth;
 use spelling::Rest;
-use spelling::Site;
 use spelling::heads::head;
 use spelling::heads::is_written;
 use spelling::heads::passed;
 use spelling::walk::close_argument;
 use spelling::walk::open_argument;
+use store::Store;
 use tables::names::look;
 use tables::token::arguments_in;
 use tables::token::token_in;
@@ -58,33 +63,16 @@ fn joined(a: Read, b: Read) -> Read
 fn read_unwritten(
     s: &[u8],
     column: &[u16],
-    table: &[u8],
-    nexts: &[u8],
-    contexts: &[u16],
-    names: &[u16],
-    facts: &[u16],
-    at: usize,
-    nest: usize,
-    p: Place,
-    bound: usize,
+    tables: &[u8],
+    store: &[u16; Store::LENGTH],
+    p: ContextAt,
+    e: Spot,
     to: usize,
 ) -> Read
-    requires { ⌜ Serves (now names) (now contexts) (now column) (now table) (now nexts) (p .from) (p .end) × (bound + nest < wordCount) ⌝ }
-    ensures { λ r. ⌜ Skims (now (names .entry)) (now (facts .entry)) (part (now (contexts .entry)) (p .from) (p .end - p .from)) (p .params) bound (exprAt nest (now (s .entry)) at) (r .kept) (r .looked) × (r .to ≡ to) ⌝ }
+    requires { ⌜ (now column ≡ rowColumn) × Serves (held (now store)) (now tables) (p .from) (p .end) × (e .bound + e .nest < wordCount) ⌝ }
+    ensures { λ r. ⌜ Skims (held (now (store .entry)) .names) (held (now (store .entry)) .facts) (part (held (now (store .entry)) .contexts) (p .from) (p .end - p .from)) (p .params) (e .bound) (exprAt (e .nest) (now (s .entry)) (e .at)) (r .kept) (r .looked) × (r .to ≡ to) ⌝ }
 {
-    let a = skim_expr(
-        s,
-        column,
-        table,
-        nexts,
-        contexts,
-        names,
-        facts,
-        at,
-        nest,
-        p,
-        bound,
-    );
+    let a = skim_expr(s, column, tables, store, p, e);
     let kept = a.kept;
     let looked = a.looked;
     Read { kept, looked, to }
@@ -92,69 +80,46 @@ fn read_unwritten(
 
 // A token looked up, and its first symbols.
 fn read_head(
-    column: &[u16],
-    table: &[u8],
-    nexts: &[u8],
-    contexts: &[u16],
-    names: &[u16],
-    facts: &[u16],
-    declared: &[u16],
+    tables: &[u8],
+    store: &[u16; Store::LENGTH],
     numbers: &[u16],
     shapes: &[u32],
     out: &mut [u8],
-    p: Place,
+    p: ContextAt,
     t: Token,
     q: usize,
-) -> Head
-    requires { ⌜ Serves (now names) (now contexts) (now column) (now table) (now nexts) (p .from) (p .end) ⌝ }
-    ensures { λ h. ⌜ ReadsHead (now (names .entry)) (now (facts .entry)) (part (now (contexts .entry)) (p .from) (p .end - p .from)) (now (declared .entry)) (now (numbers .entry)) (now (shapes .entry)) t (now (out .entry)) q (now (out .exit)) h ⌝ }
+) -> TokenHead
+    requires { ⌜ Serves (held (now store)) (now tables) (p .from) (p .end) ⌝ }
+    ensures { λ h. ⌜ ReadsHead (held (now (store .entry)) .names) (held (now (store .entry)) .facts) (part (held (now (store .entry)) .contexts) (p .from) (p .end - p .from)) (held (now (store .entry)) .declared) (now (numbers .entry)) (now (shapes .entry)) t (now (out .entry)) q (now (out .exit)) h ⌝ }
 {
-    let l = look(names, facts, contexts, table, nexts, p.from, p.end, t);
-    let site = Site { level: 0, outer: 0 };
+    let l = look(store, tables, p.from, p.end, t);
+    let site = ChainDepth { level: 0, outer: 0 };
     let r = number_of(l);
-    let rest = head(names, declared, numbers, shapes, out, t, r, site, q);
-    Head { look: l, rest }
+    let rest = head(store, numbers, shapes, out, t, r, site, q);
+    TokenHead { look: l, rest }
 }
 
-// The expression at a position that nests at most `nest` deep; its string is written from q on.
+// The expression at a place; its string is written from q on.
 pub fn read_expr(
     s: &[u8],
     column: &[u16],
-    table: &[u8],
-    nexts: &[u8],
-    contexts: &[u16],
-    names: &[u16],
-    facts: &[u16],
-    declared: &[u16],
+    tables: &[u8],
+    store: &[u16; Store::LENGTH],
     numbers: &[u16],
     shapes: &[u32],
     out: &mut [u8],
-    at: usize,
-    nest: usize,
-    p: Place,
-    bound: usize,
+    p: ContextAt,
+    e: Spot,
     q: usize,
 ) -> Read
-    requires { ⌜ Serves (now names) (now contexts) (now column) (now table) (now nexts) (p .from) (p .end) × (bound + nest < wordCount) ⌝ }
-    ensures { λ r. ⌜ Reads (now (names .entry)) (now (facts .entry)) (part (now (contexts .entry)) (p .from) (p .end - p .from)) (now (declared .entry)) (now (numbers .entry)) (now (shapes .entry)) (p .params) bound (exprAt nest (now (s .entry)) at) (now (out .entry)) q (now (out .exit)) r ⌝ }
+    requires { ⌜ (now column ≡ rowColumn) × Serves (held (now store)) (now tables) (p .from) (p .end) × (e .bound + e .nest < wordCount) ⌝ }
+    ensures { λ r. ⌜ Reads (held (now (store .entry)) .names) (held (now (store .entry)) .facts) (part (held (now (store .entry)) .contexts) (p .from) (p .end - p .from)) (held (now (store .entry)) .declared) (now (numbers .entry)) (now (shapes .entry)) (p .params) (e .bound) (exprAt (e .nest) (now (s .entry)) (e .at)) (now (out .entry)) q (now (out .exit)) r ⌝ }
 {
     if out.len() < q {
-        return read_unwritten(
-            s,
-            column,
-            table,
-            nexts,
-            contexts,
-            names,
-            facts,
-            at,
-            nest,
-            p,
-            bound,
-            q,
-        );
+        return read_unwritten(s, column, tables, store, p, e, q);
     }
-    if nest == 0 {
+    let at = e.at;
+    if e.nest == 0 {
         return stopped(at, q);
     }
     let t = token_in(s, column, at);
@@ -166,19 +131,13 @@ pub fn read_expr(
         return read_token(
             s,
             column,
-            table,
-            nexts,
-            contexts,
-            names,
-            facts,
-            declared,
+            tables,
+            store,
             numbers,
             shapes,
             out,
-            at,
-            nest,
             p,
-            bound,
+            e,
             q,
             t,
             k,
@@ -191,209 +150,132 @@ pub fn read_expr(
 fn read_token(
     s: &[u8],
     column: &[u16],
-    table: &[u8],
-    nexts: &[u8],
-    contexts: &[u16],
-    names: &[u16],
-    facts: &[u16],
-    declared: &[u16],
+    tables: &[u8],
+    store: &[u16; Store::LENGTH],
     numbers: &[u16],
     shapes: &[u32],
     out: &mut [u8],
-    at: usize,
-    nest: usize,
-    p: Place,
-    bound: usize,
+    p: ContextAt,
+    e: Spot,
     q: usize,
     t: Token,
     k: u8,
 ) -> Read
-    requires { ⌜ Serves (now names) (now contexts) (now column) (now table) (now nexts) (p .from) (p .end) × (bound + nest < wordCount) × Stands (now s) at nest t k ⌝ }
-    ensures { λ r. ⌜ Reads (now (names .entry)) (now (facts .entry)) (part (now (contexts .entry)) (p .from) (p .end - p .from)) (now (declared .entry)) (now (numbers .entry)) (now (shapes .entry)) (p .params) bound (exprAt nest (now (s .entry)) at) (now (out .entry)) q (now (out .exit)) r ⌝ }
+    requires { ⌜ (now column ≡ rowColumn) × Serves (held (now store)) (now tables) (p .from) (p .end) × (e .bound + e .nest < wordCount) × Stands (now s) (e .at) (e .nest) t k ⌝ }
+    ensures { λ r. ⌜ Reads (held (now (store .entry)) .names) (held (now (store .entry)) .facts) (part (held (now (store .entry)) .contexts) (p .from) (p .end - p .from)) (held (now (store .entry)) .declared) (now (numbers .entry)) (now (shapes .entry)) (p .params) (e .bound) (exprAt (e .nest) (now (s .entry)) (e .at)) (now (out .entry)) q (now (out .exit)) r ⌝ }
 {
-    let h = read_head(
-        column,
-        table,
-        nexts,
-        contexts,
-        names,
-        facts,
-        declared,
-        numbers,
-        shapes,
-        out,
-        p,
-        t,
-        q,
-    );
-    let start = after_token(s, at, t);
-    let last = bound_inside(column, t, bound);
+    let h = read_head(tables, store, numbers, shapes, out, p, t, q);
+    let start = after_token(s, e.at, t);
+    let last = bound_inside(column, t, e.bound);
     let l = h.look;
     let rest = h.rest;
-    let a = read_args(
-        s,
-        column,
-        table,
-        nexts,
-        contexts,
-        names,
-        facts,
-        declared,
-        numbers,
-        shapes,
-        out,
-        start,
-        k,
-        nest - 1,
-        p,
-        bound,
-        last,
-        rest,
-    );
+    let g = Args {
+        at: start,
+        count: k,
+        nest: e.nest - 1,
+        around: e.bound,
+        within: last,
+    };
+    let a = read_args(s, column, tables, store, numbers, shapes, out, p, g, rest);
     let kept = a.kept;
     let to = a.to;
-    let looked = over(t, l, p.params, bound, a.looked);
+    let looked = over(t, l, p.params, e.bound, a.looked);
     Read { kept, looked, to }
 }
 
-// k arguments from a position on, the last of them where `last` bound variables are known; what is left to be written of them is written.
+// Arguments; what is left to be written of them is written.
 fn read_args(
     s: &[u8],
     column: &[u16],
-    table: &[u8],
-    nexts: &[u8],
-    contexts: &[u16],
-    names: &[u16],
-    facts: &[u16],
-    declared: &[u16],
+    tables: &[u8],
+    store: &[u16; Store::LENGTH],
     numbers: &[u16],
     shapes: &[u32],
     out: &mut [u8],
-    at: usize,
-    k: u8,
-    nest: usize,
-    p: Place,
-    outer: usize,
-    last: usize,
+    p: ContextAt,
+    g: Args,
     rest: Rest,
 ) -> Read
-    requires { ⌜ Serves (now names) (now contexts) (now column) (now table) (now nexts) (p .from) (p .end) × (outer + nest < wordCount) × (last + nest < wordCount) ⌝ }
-    ensures { λ r. ⌜ ReadsAll (now (names .entry)) (now (facts .entry)) (part (now (contexts .entry)) (p .from) (p .end - p .from)) (now (declared .entry)) (now (numbers .entry)) (now (shapes .entry)) (p .params) outer last (several (exprAt nest (now (s .entry))) at k) k rest (now (out .entry)) (now (out .exit)) r ⌝ }
+    requires { ⌜ (now column ≡ rowColumn) × Serves (held (now store)) (now tables) (p .from) (p .end) × (g .around + g .nest < wordCount) × (g .within + g .nest < wordCount) ⌝ }
+    ensures { λ r. ⌜ ReadsAll (held (now (store .entry)) .names) (held (now (store .entry)) .facts) (part (held (now (store .entry)) .contexts) (p .from) (p .end - p .from)) (held (now (store .entry)) .declared) (now (numbers .entry)) (now (shapes .entry)) (p .params) (g .around) (g .within) (several (exprAt (g .nest) (now (s .entry))) (g .at) (g .count)) (g .count) rest (now (out .entry)) (now (out .exit)) r ⌝ }
 {
+    let k = g.count;
     if k == 0 {
         return Read {
             kept: true,
-            looked: nothing(at),
+            looked: nothing(g.at),
             to: rest.to,
         };
     }
-    let bound = bound_in(k, outer, last);
+    let bound = bound_in(k, g.around, g.within);
+    let e = Spot {
+        at: g.at,
+        nest: g.nest,
+        bound,
+    };
     let a = read_argument(
         s,
         column,
-        table,
-        nexts,
-        contexts,
-        names,
-        facts,
-        declared,
+        tables,
+        store,
         numbers,
         shapes,
         out,
-        at,
-        k,
-        nest,
         p,
-        bound,
+        e,
+        k,
         rest,
     );
     if a.kept {
         let left = passed(rest, a.to);
+        let others = Args {
+            at: a.looked.next,
+            count: k - 1,
+            nest: g.nest,
+            around: g.around,
+            within: g.within,
+        };
         let b = read_args(
             s,
             column,
-            table,
-            nexts,
-            contexts,
-            names,
-            facts,
-            declared,
+            tables,
+            store,
             numbers,
             shapes,
             out,
-            a.looked.next,
-            k - 1,
-            nest,
             p,
-            outer,
-            last,
+            others,
             left,
         );
         return joined(a, b);
     }
-    stopped(at, a.to)
+    stopped(g.at, a.to)
 }
 
 // The first of k arguments.
 fn read_argument(
     s: &[u8],
     column: &[u16],
-    table: &[u8],
-    nexts: &[u8],
-    contexts: &[u16],
-    names: &[u16],
-    facts: &[u16],
-    declared: &[u16],
+    tables: &[u8],
+    store: &[u16; Store::LENGTH],
     numbers: &[u16],
     shapes: &[u32],
     out: &mut [u8],
-    at: usize,
+    p: ContextAt,
+    e: Spot,
     k: u8,
-    nest: usize,
-    p: Place,
-    bound: usize,
     rest: Rest,
 ) -> Read
-    requires { ⌜ Serves (now names) (now contexts) (now column) (now table) (now nexts) (p .from) (p .end) × (bound + nest < wordCount) ⌝ }
-    ensures { λ r. ⌜ ReadsArgument (now (names .entry)) (now (facts .entry)) (part (now (contexts .entry)) (p .from) (p .end - p .from)) (now (declared .entry)) (now (numbers .entry)) (now (shapes .entry)) (p .params) bound (exprAt nest (now (s .entry)) at) k rest (now (out .entry)) (now (out .exit)) r ⌝ }
+    requires { ⌜ (now column ≡ rowColumn) × Serves (held (now store)) (now tables) (p .from) (p .end) × (e .bound + e .nest < wordCount) ⌝ }
+    ensures { λ r. ⌜ ReadsArgument (held (now (store .entry)) .names) (held (now (store .entry)) .facts) (part (held (now (store .entry)) .contexts) (p .from) (p .end - p .from)) (held (now (store .entry)) .declared) (now (numbers .entry)) (now (shapes .entry)) (p .params) (e .bound) (exprAt (e .nest) (now (s .entry)) (e .at)) k rest (now (out .entry)) (now (out .exit)) r ⌝ }
 {
     if is_written(rest) {
         let q = open_argument(out, rest, k);
-        let a = read_expr(
-            s,
-            column,
-            table,
-            nexts,
-            contexts,
-            names,
-            facts,
-            declared,
-            numbers,
-            shapes,
-            out,
-            at,
-            nest,
-            p,
-            bound,
-            q,
-        );
+        let a = read_expr(s, column, tables, store, numbers, shapes, out, p, e, q);
         let kept = a.kept;
         let looked = a.looked;
         let to = close_argument(out, rest, k, a.to);
         return Read { kept, looked, to };
     }
-    read_unwritten(
-        s,
-        column,
-        table,
-        nexts,
-        contexts,
-        names,
-        facts,
-        at,
-        nest,
-        p,
-        bound,
-        rest.to,
-    )
+    read_unwritten(s, column, tables, store, p, e, rest.to)
 }

@@ -21,6 +21,20 @@ use queries::body;
 use queries::expansion::expand;
 use queries::level;
 
+// As `unpacking` takes them apart.
+struct Bits;
+
+impl Bits {
+    // The highest of 32 bits, which a refusal has set; a result has not.
+    const REFUSAL: u32 = 2147483648;
+    // And the highest of 64.
+    const WIDE_REFUSAL: u64 = 9223372036854775808;
+    // As many places as there are: a refusal's number stands above the 16 bits of its place, a part's start above those of its length.
+    const PLACES: u32 = 65536;
+    // The same in 64 bits.
+    const WIDE_PLACES: u64 = 65536;
+}
+
 fn pack_result(n: usize) -> u32
     requires { ⌜ n ≤ maxDefinitions ⌝ }
     ensures { λ r. ⌜ r ≡ n ⌝ }
@@ -38,21 +52,21 @@ fn pack_span(start: usize, size: usize) -> u64
     requires { ⌜ start + size ≤ fileBytes ⌝ }
     ensures { λ r. ⌜ r ≡ 65536 * start + size ⌝ }
 {
-    65536 * (start as u64) + size as u64
+    Bits::WIDE_PLACES * (start as u64) + size as u64
 }
 
 fn pack_refusal(c: u8, p: usize) -> u32
     requires { ⌜ p ≤ fileBytes ⌝ }
     ensures { λ r. ⌜ r ≡ 2147483648 + 65536 * c + p ⌝ }
 {
-    2147483648 + 65536 * (c as u32) + p as u32
+    Bits::REFUSAL + Bits::PLACES * (c as u32) + p as u32
 }
 
 fn pack_wide_refusal(c: u8, p: usize) -> u64
     requires { ⌜ p ≤ fileBytes ⌝ }
     ensures { λ r. ⌜ r ≡ 9223372036854775808 + 65536 * c + p ⌝ }
 {
-    9223372036854775808 + 65536 * (c as u64) + p as u64
+    Bits::WIDE_REFUSAL + Bits::WIDE_PLACES * (c as u64) + p as u64
 }
 
 // Each operation's reply as one number.

@@ -25,9 +25,9 @@ use Rattle.cells.specs.declared.Layout.{Layout}
 use Rattle.streaming.specs.Step.{Read, Written}
 use Rattle.replacing.proofs.Tasks.{again, kept-first, kept-through, posed-again, replaced-all, replaced-through}
 use Rattle.replacing.specs.Round.{NotedRan, RanOn, Rounded, Rounding, TurnedTo}
-use Rattle.replacing.specs.declared.Left.{Left}
+use Rattle.replacing.specs.declared.AfterRound.{AfterRound}
 use Rattle.replacing.specs.declared.Round.{Round}
-use Rattle.replacing.specs.declared.Told.{Told}
+use Rattle.replacing.specs.declared.RunResult.{RunResult}
 
 one-none : (b rest : Bool) (t : ℕ) → cond b 1 0 + t ≡ 0 → (t ≡ 0 → rest ≡ false) → (b || rest) ≡ false
 one-none true rest t e f = absurd (omega arith)
@@ -54,7 +54,7 @@ module _ (a template : List ℕ) (tlen : ℕ) (shapes : List ℕ) (n : ℕ) wher
       }
 
   -- those that are noted have been replaced
-  pub noted-ran : (out out′ : List ℕ) (l : Layout) (h known : ℕ) (table table′ : List ℕ) (told : Bool) (t : Told) → h ≡ getD shapes n 0 → l .places ≡ placesOf h → Sized l (length table)
+  pub noted-ran : (out out′ : List ℕ) (l : Layout) (h known : ℕ) (table table′ : List ℕ) (told : Bool) (t : RunResult) → h ≡ getD shapes n 0 → l .places ≡ placesOf h → Sized l (length table)
       → length table′ ≡ length table → EndsCalls a shapes n l known table table′ told → told ≡ true → RanOn a template tlen n l known table′ out out′ t
       → NotedRan a template tlen shapes n l known table out out′ t
   noted-ran out out′ l h known table table′ told t eh places sized long ends done ran =
@@ -75,11 +75,11 @@ module _ (a template : List ℕ) (tlen : ℕ) (shapes : List ℕ) (n : ℕ) wher
                 (stands-shaped (x .sense) (x .params) (p .templated .few) (x .term) 0 (p .stands .formed) (p .stands .calls)) (p .near) (p .spelt) noted;
           }
 
-  pub noted-lost : (out out′ : List ℕ) (l : Layout) (known : ℕ) (table : List ℕ) (t : Told) → t .told ≡ false → t .len ≡ 0 → NotedRan a template tlen shapes n l known table out out′ t
+  pub noted-lost : (out out′ : List ℕ) (l : Layout) (known : ℕ) (table : List ℕ) (t : RunResult) → t .told ≡ false → t .len ≡ 0 → NotedRan a template tlen shapes n l known table out out′ t
   noted-lost out out′ l known table t told len =
       record { within = omega arith; yes = λ u. never (sym u ∙ told); no = λ u. never (sym u ∙ told) }
 
-  pub round-ran : (out out′ : List ℕ) (l : Layout) (found : ℕ) (table : List ℕ) (t : Told) (r : Round) → (found ≡ 0 → ⊥) → Noted a n l found table
+  pub round-ran : (out out′ : List ℕ) (l : Layout) (found : ℕ) (table : List ℕ) (t : RunResult) (r : Round) → (found ≡ 0 → ⊥) → Noted a n l found table
       → NotedRan a template tlen shapes n l found table out out′ t → r .calls ≡ found → r .told ≡ t .told → r .fits ≡ t .fits → r .len ≡ t .len
       → Rounded a template tlen shapes n out out′ r
   round-ran out out′ l found table t r some noted ran ec et ef el =
@@ -98,7 +98,7 @@ round-first a size template tlen shapes n out out′ r h =
     subst (λ (k : ℕ). Rounded (take k a) template tlen shapes n out out′ r) e h
 
 -- the calls replaced one after another
-pub turn-slow : (before : List ℕ) (size n : ℕ) (template : List ℕ) (tlen : ℕ) (shapes after : List ℕ) (f : Filled) (t : Left) → Rewritten before size n template tlen shapes after f → t .more ≡ false → t .fits ≡ f .fits → t .len ≡ f .len
+pub turn-slow : (before : List ℕ) (size n : ℕ) (template : List ℕ) (tlen : ℕ) (shapes after : List ℕ) (f : Filled) (t : AfterRound) → Rewritten before size n template tlen shapes after f → t .more ≡ false → t .fits ≡ f .fits → t .len ≡ f .len
     → TurnedTo before size n template tlen shapes after t
 turn-slow before size n template tlen shapes after f t w more ef el =
     record {
@@ -125,7 +125,7 @@ module _ (before : List ℕ) (size n : ℕ) (template : List ℕ) (tlen : ℕ) (
       }
 
   module _ (out out′ : List ℕ) (r : Round) (h : Rounded (take size before) template tlen shapes n out out′ r) where
-    pub turn-done : (t : Left) → r .calls ≡ 0 → t .more ≡ false → t .fits ≡ true → t .len ≡ size → TurnedTo before size n template tlen shapes before t
+    pub turn-done : (t : AfterRound) → r .calls ≡ 0 → t .more ≡ false → t .fits ≡ true → t .len ≡ size → TurnedTo before size n template tlen shapes before t
     turn-done t e more fits len =
         record {
           long = refl;
@@ -136,7 +136,7 @@ module _ (before : List ℕ) (size n : ℕ) (template : List ℕ) (tlen : ℕ) (
               (subst (Spelt before 0 (spell (x .sense .shape) (x .term))) (sym len) (p .spelt)) (h .clear e x (posed-part x p)) fits;
         }
 
-    pub turn-more : (after : List ℕ) (t : Left) → (r .calls ≡ 0 → ⊥) → r .told ≡ true → r .fits ≡ true → length before ≡ length out → length out′ ≡ length out
+    pub turn-more : (after : List ℕ) (t : AfterRound) → (r .calls ≡ 0 → ⊥) → r .told ≡ true → r .fits ≡ true → length before ≡ length out → length out′ ≡ length out
         → after ≡ paste before 0 out′ (r .len) → length after ≡ length before → t .more ≡ true → t .len ≡ r .len → TurnedTo before size n template tlen shapes after t
     turn-more after t some told fits same long e la more len =
         record {
@@ -151,7 +151,7 @@ module _ (before : List ℕ) (size n : ℕ) (template : List ℕ) (tlen : ℕ) (
           ends = λ m. never (sym more ∙ m);
         }
 
-    pub turn-short : (t : Left) → r .told ≡ true → r .fits ≡ false → length before ≡ length out → t .more ≡ false → t .fits ≡ false → t .len ≡ 0 → TurnedTo before size n template tlen shapes before t
+    pub turn-short : (t : AfterRound) → r .told ≡ true → r .fits ≡ false → length before ≡ length out → t .more ≡ false → t .fits ≡ false → t .len ≡ 0 → TurnedTo before size n template tlen shapes before t
     turn-short t told fits same more unfit len =
         record {
           long = refl;
@@ -165,7 +165,7 @@ module _ (before : List ℕ) (len n : ℕ) (template : List ℕ) (tlen : ℕ) (s
   rounds-start l = record { long = refl; within = l; on = λ x p. record { kept = kept-first x before len n template tlen shapes p; spelt = p .spelt } }
 
   module _ (a : List ℕ) (size : ℕ) (h : Rounding before len n template tlen shapes a size) where
-    pub rounds-on : (after : List ℕ) (t : Left) → TurnedTo a size n template tlen shapes after t → t .more ≡ true → Rounding before len n template tlen shapes after (t .len)
+    pub rounds-on : (after : List ℕ) (t : AfterRound) → TurnedTo a size n template tlen shapes after t → t .more ≡ true → Rounding before len n template tlen shapes after (t .len)
     rounds-on after t w more =
         record {
           long = w .long ∙ h .long;
@@ -176,7 +176,7 @@ module _ (before : List ℕ) (len n : ℕ) (template : List ℕ) (tlen : ℕ) (s
               record { kept = kept-through x (y .kept) (v .kept); spelt = v .spelt };
         }
 
-    pub rounds-end : (after : List ℕ) (t : Left) (r : Filled) → TurnedTo a size n template tlen shapes after t → t .more ≡ false → r .fits ≡ t .fits → r .len ≡ t .len
+    pub rounds-end : (after : List ℕ) (t : AfterRound) (r : Filled) → TurnedTo a size n template tlen shapes after t → t .more ≡ false → r .fits ≡ t .fits → r .len ≡ t .len
         → Rewritten before len n template tlen shapes after r
     rounds-end after t r w more ef el =
         record {

@@ -17,7 +17,7 @@ use Rattle.streaming.specs.declared.Stepped.{Stepped}
 use Rattle.streaming.specs.declared.Stepped.the-variants.{Finished, Lost, On, Short}
 use Rattle.replacing.proofs.Starting.{start-here}
 use Rattle.replacing.specs.Round.{Ran, RanOn, Running, StepsIn}
-use Rattle.replacing.specs.declared.Told.{Told}
+use Rattle.replacing.specs.declared.RunResult.{RunResult}
 
 -- a table of the same length
 pub sized-same : (l : Layout) (table table₀ : List ℕ) → length table ≡ length table₀ → Sized l (length table₀) → Sized l (length table)
@@ -73,7 +73,7 @@ module _ (a template : List ℕ) (tlen n : ℕ) (l : Layout) (known : ℕ) where
               subst (Comes x a template tlen shapes n l known table′ env′ out′) e (st .steps shapes .on x (u .0) (u .1));
         }
 
-    pub run-finished : (len : ℕ) (t : Told) → r ≡ Finished len → t .told ≡ true → t .fits ≡ true → t .len ≡ len → RanOn a template tlen n l known table₀ out₀ out′ t
+    pub run-finished : (len : ℕ) (t : RunResult) → r ≡ Finished len → t .told ≡ true → t .fits ≡ true → t .len ≡ len → RanOn a template tlen n l known table₀ out₀ out′ t
     run-finished len t e told fits is =
         record {
           ran = λ shapes.
@@ -86,7 +86,7 @@ module _ (a template : List ℕ) (tlen n : ℕ) (l : Layout) (known : ℕ) where
               };
         }
 
-    pub run-short : (t : Told) → r ≡ Short → t .told ≡ true → t .fits ≡ false → t .len ≡ 0 → RanOn a template tlen n l known table₀ out₀ out′ t
+    pub run-short : (t : RunResult) → r ≡ Short → t .told ≡ true → t .fits ≡ false → t .len ≡ 0 → RanOn a template tlen n l known table₀ out₀ out′ t
     run-short t e told fits is =
         record {
           ran = λ shapes.
@@ -100,6 +100,6 @@ module _ (a template : List ℕ) (tlen n : ℕ) (l : Layout) (known : ℕ) where
               };
         }
 
-  pub run-lost : (table₀ out₀ out′ : List ℕ) (t : Told) → t .told ≡ false → t .len ≡ 0 → RanOn a template tlen n l known table₀ out₀ out′ t
+  pub run-lost : (table₀ out₀ out′ : List ℕ) (t : RunResult) → t .told ≡ false → t .len ≡ 0 → RanOn a template tlen n l known table₀ out₀ out′ t
   run-lost table₀ out₀ out′ t told is =
       record { ran = λ shapes. record { within = omega arith; yes = λ p. never (sym p ∙ told); no = λ p. never (sym p ∙ told) } }

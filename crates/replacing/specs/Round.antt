@@ -16,8 +16,8 @@ use Rattle.streaming.specs.Step.{Read, Sane, Steps, Written}
 use Rattle.streaming.specs.declared.Now.{Now}
 use Rattle.streaming.specs.declared.Stepped.{Stepped}
 use Rattle.replacing.specs.declared.Round.{Round}
-use Rattle.replacing.specs.declared.Told.{Told}
-use Rattle.replacing.specs.declared.Left.{Left}
+use Rattle.replacing.specs.declared.RunResult.{RunResult}
+use Rattle.replacing.specs.declared.AfterRound.{AfterRound}
 use Rattle.cells.specs.Table.{Noted}
 use Rattle.cells.specs.declared.Layout.{Layout}
 
@@ -26,12 +26,12 @@ pub record StepsIn (a template : List ℕ) (tlen n : ℕ) (l : Layout) (known : 
   pub steps : (shapes : List ℕ) → Steps a template tlen shapes n l known (s .inside) table env out s table′ env′ out′ r
 
 -- the calls that the table has words for are replaced
-pub record Ran (a template : List ℕ) (tlen : ℕ) (shapes : List ℕ) (n : ℕ) (l : Layout) (known : ℕ) (table out out′ : List ℕ) (r : Told) : Type 0 where
+pub record Ran (a template : List ℕ) (tlen : ℕ) (shapes : List ℕ) (n : ℕ) (l : Layout) (known : ℕ) (table out out′ : List ℕ) (r : RunResult) : Type 0 where
   pub within : r .len ≤ length out
   pub yes : r .told ≡ true → r .fits ≡ true → (x : Task) → Read x a template tlen shapes n l known table → Written x out′ (r .len)
   pub no : r .told ≡ true → r .fits ≡ false → (x : Task) → Read x a template tlen shapes n l known table → Over x (length out)
 
-pub record RanOn (a template : List ℕ) (tlen n : ℕ) (l : Layout) (known : ℕ) (table out out′ : List ℕ) (r : Told) : Type 0 where
+pub record RanOn (a template : List ℕ) (tlen n : ℕ) (l : Layout) (known : ℕ) (table out out′ : List ℕ) (r : RunResult) : Type 0 where
   pub ran : (shapes : List ℕ) → Ran a template tlen shapes n l known table out out′ r
 
 -- after so many steps
@@ -44,7 +44,7 @@ pub record Running (a template : List ℕ) (tlen n : ℕ) (l : Layout) (known : 
       → Read x a template tlen shapes n l known table × Underway (s .inside) x a template tlen shapes n l known table env out s
 
 -- the calls that are noted in the table are replaced
-pub record NotedRan (a template : List ℕ) (tlen : ℕ) (shapes : List ℕ) (n : ℕ) (l : Layout) (known : ℕ) (table out out′ : List ℕ) (r : Told) : Type 0 where
+pub record NotedRan (a template : List ℕ) (tlen : ℕ) (shapes : List ℕ) (n : ℕ) (l : Layout) (known : ℕ) (table out out′ : List ℕ) (r : RunResult) : Type 0 where
   pub within : r .len ≤ length out
   pub yes : r .told ≡ true → r .fits ≡ true → Noted a n l known table → (x : Task) → Posed a (length a) n template tlen shapes x → Written x out′ (r .len)
   pub no : r .told ≡ true → r .fits ≡ false → Noted a n l known table → (x : Task) → Posed a (length a) n template tlen shapes x → Over x (length out)
@@ -56,11 +56,11 @@ pub record Rounded (a template : List ℕ) (tlen : ℕ) (shapes : List ℕ) (n :
   pub yes : r .told ≡ true → r .fits ≡ true → (x : Task) → Posed a (length a) n template tlen shapes x → (r .calls ≡ 0 → ⊥) → Written x out′ (r .len)
   pub no : r .told ≡ true → r .fits ≡ false → (x : Task) → Posed a (length a) n template tlen shapes x → Over x (length out)
 
-abbrev pub filledOf : Left → Filled
+abbrev pub filledOf : AfterRound → Filled
 filledOf r = record { fits = r .fits; len = r .len }
 
 -- after a round: a string that means the same, or the answer
-pub record TurnedTo (before : List ℕ) (size n : ℕ) (template : List ℕ) (tlen : ℕ) (shapes after : List ℕ) (r : Left) : Type 0 where
+pub record TurnedTo (before : List ℕ) (size n : ℕ) (template : List ℕ) (tlen : ℕ) (shapes after : List ℕ) (r : AfterRound) : Type 0 where
   pub long : length after ≡ length before
   pub within : r .len ≤ length before
   pub more : r .more ≡ true → (x : Task) → Posed before size n template tlen shapes x → Written x after (r .len)

@@ -10,7 +10,7 @@ ghost use Rattle.rewriting.specs.Rewritten.{Rewritten};
 ghost use Rattle.replacing.specs.Round.{NotedRan, RanOn, Rounded, StepsIn, TurnedTo};
 ghost use Rattle.streaming.specs.Step.{Sane};
 ghost use Rattle.rewriting.specs.Ends.{placesOf};
-ghost use Rattle.cells.specs.Table.{Sized, rowBytes};
+ghost use Rattle.cells.specs.Table.{Sized, rowBytes, stringBytes};
 use call_table::end_calls;
 use call_table::note_calls;
 use cells::Layout;
@@ -22,7 +22,7 @@ use streaming::inside::step_inside;
 use strings::Filled;
 
 // What a run comes to; where it is not `told`, nothing is known.
-pub struct Told {
+pub struct RunResult {
     pub told: bool,
     pub fits: bool,
     pub len: usize,
@@ -74,8 +74,8 @@ pub fn run(
     known: usize,
     env: &mut [u16],
     out: &mut [u8],
-) -> Told
-    requires { ⌜ (length (now a) ≤ 131072) × Sized l (length (now table)) × (known ≤ l .room) × (tlen ≤ 1024) ⌝ }
+) -> RunResult
+    requires { ⌜ (length (now a) ≤ stringBytes) × Sized l (length (now table)) × (known ≤ l .room) × (tlen ≤ 1024) ⌝ }
     ensures { λ r. ⌜ RanOn (now (a .entry)) (now (template .entry)) tlen n l known (now (table .entry)) (now (out .entry)) (now (out .exit)) r ⌝ }
 {
     let mut s = Now {
@@ -95,21 +95,21 @@ pub fn run(
         match r {
             Stepped::On(next) => s = next,
             Stepped::Finished(len) => {
-                return Told {
+                return RunResult {
                     told: true,
                     fits: true,
                     len,
                 }
             }
             Stepped::Short => {
-                return Told {
+                return RunResult {
                     told: true,
                     fits: false,
                     len: 0,
                 }
             }
             Stepped::Lost => {
-                return Told {
+                return RunResult {
                     told: false,
                     fits: false,
                     len: 0,
@@ -118,7 +118,7 @@ pub fn run(
         }
         turns += 1;
     }
-    Told {
+    RunResult {
         told: false,
         fits: false,
         len: 0,
@@ -139,14 +139,14 @@ fn replace_noted(
     h: u32,
     env: &mut [u16],
     out: &mut [u8],
-) -> Told
-    requires { ⌜ (length (now a) ≤ 131072) × Sized l (length (now table)) × (known ≤ l .room) × (now arities ≡ arityColumn) × (h ≡ getD (now shapes) n 0) × (l .places ≡ placesOf h) × (tlen ≤ 1024) ⌝ }
+) -> RunResult
+    requires { ⌜ (length (now a) ≤ stringBytes) × Sized l (length (now table)) × (known ≤ l .room) × (now arities ≡ arityColumn) × (h ≡ getD (now shapes) n 0) × (l .places ≡ placesOf h) × (tlen ≤ 1024) ⌝ }
     ensures { λ r. ⌜ NotedRan (now (a .entry)) (now (template .entry)) tlen (now (shapes .entry)) n l known (now (table .entry)) (now (out .entry)) (now (out .exit)) r ⌝ }
 {
     if end_calls(a, shapes, arities, n, table, l, known, h) {
         return run(a, n, template, tlen, table, l, known, env, out);
     }
-    Told {
+    RunResult {
         told: false,
         fits: false,
         len: 0,
@@ -172,7 +172,7 @@ fn one_round(
     env: &mut [u16],
     out: &mut [u8],
 ) -> Round
-    requires { ⌜ (length (now a) ≤ 131072) × (rowBytes ≤ length (now table)) × (length (now table) < 2 ^ 48) × (now arities ≡ arityColumn) × (tlen ≤ 1024) ⌝ }
+    requires { ⌜ (length (now a) ≤ stringBytes) × (rowBytes ≤ length (now table)) × (length (now table) < 2 ^ 48) × (now arities ≡ arityColumn) × (tlen ≤ 1024) ⌝ }
     ensures { λ r. ⌜ Rounded (now (a .entry)) (now (template .entry)) tlen (now (shapes .entry)) n (now (out .entry)) (now (out .exit)) r ⌝ }
 {
     let h = symbols::shape_at(shapes, n as usize);
@@ -221,7 +221,7 @@ fn first_round(
     env: &mut [u16],
     out: &mut [u8],
 ) -> Round
-    requires { ⌜ (size ≤ length (now a)) × (length (now a) ≤ 131072) × (rowBytes ≤ length (now table)) × (length (now table) < 2 ^ 48) × (now arities ≡ arityColumn) × (tlen ≤ 1024) ⌝ }
+    requires { ⌜ (size ≤ length (now a)) × (length (now a) ≤ stringBytes) × (rowBytes ≤ length (now table)) × (length (now table) < 2 ^ 48) × (now arities ≡ arityColumn) × (tlen ≤ 1024) ⌝ }
     ensures { λ r. ⌜ Rounded (take size (now (a .entry))) (now (template .entry)) tlen (now (shapes .entry)) n (now (out .entry)) (now (out .exit)) r ⌝ }
 {
     one_round(
@@ -238,7 +238,7 @@ fn first_round(
 }
 
 // What a round leaves: a string in which calls may be left, or the answer.
-pub struct Left {
+pub struct AfterRound {
     pub more: bool,
     pub fits: bool,
     pub len: usize,
@@ -256,8 +256,8 @@ fn turn(
     table: &mut [u8],
     env: &mut [u16],
     filled: &mut [u8],
-) -> Left
-    requires { ⌜ (size ≤ length (now a)) × (length (now a) ≡ length (now filled)) × (length (now filled) ≤ 131072) × (rowBytes ≤ length (now table)) × (length (now table) < 2 ^ 48) × (now arities ≡ arityColumn) × (tlen ≤ 1024) ⌝ }
+) -> AfterRound
+    requires { ⌜ (size ≤ length (now a)) × (length (now a) ≡ length (now filled)) × (length (now filled) ≤ stringBytes) × (rowBytes ≤ length (now table)) × (length (now table) < 2 ^ 48) × (now arities ≡ arityColumn) × (tlen ≤ 1024) ⌝ }
     ensures { λ r. ⌜ TurnedTo (now (a .entry)) size n (now (template .entry)) tlen (now (shapes .entry)) (now (a .exit)) r ⌝ }
 {
     let r = first_round(
@@ -273,7 +273,7 @@ fn turn(
         filled,
     );
     if r.calls == 0 {
-        return Left {
+        return AfterRound {
             more: false,
             fits: true,
             len: size,
@@ -282,20 +282,20 @@ fn turn(
     if r.told {
         if r.fits {
             strings::place(filled, r.len, a, 0);
-            return Left {
+            return AfterRound {
                 more: true,
                 fits: true,
                 len: r.len,
             };
         }
-        return Left {
+        return AfterRound {
             more: false,
             fits: false,
             len: 0,
         };
     }
     let f = rewriting::rewrite(a, size, n, template, tlen, shapes, filled);
-    Left {
+    AfterRound {
         more: false,
         fits: f.fits,
         len: f.len,
@@ -315,7 +315,7 @@ fn rounds(
     env: &mut [u16],
     filled: &mut [u8],
 ) -> Filled
-    requires { ⌜ (len ≤ length (now a)) × (length (now a) ≡ length (now filled)) × (length (now filled) ≤ 131072) × (rowBytes ≤ length (now table)) × (length (now table) < 2 ^ 48) × (now arities ≡ arityColumn) × (tlen ≤ 1024) ⌝ }
+    requires { ⌜ (len ≤ length (now a)) × (length (now a) ≡ length (now filled)) × (length (now filled) ≤ stringBytes) × (rowBytes ≤ length (now table)) × (length (now table) < 2 ^ 48) × (now arities ≡ arityColumn) × (tlen ≤ 1024) ⌝ }
     ensures { λ r. ⌜ Rewritten (now (a .entry)) len n (now (template .entry)) tlen (now (shapes .entry)) (now (a .exit)) r ⌝ }
 {
     let mut size = len;
@@ -359,7 +359,7 @@ fn rewrite_with(
     env: &mut [u16],
     filled: &mut [u8],
 ) -> Filled
-    requires { ⌜ (len ≤ length (now a)) × (length (now a) ≡ length (now filled)) × (length (now filled) ≤ 131072) × (tlen ≤ 1024) × (1024 ≤ length (now template)) × (length (now template) < 2 ^ 48) × (1024 ≤ length (now small)) × (now arities ≡ arityColumn) ⌝ }
+    requires { ⌜ (len ≤ length (now a)) × (length (now a) ≡ length (now filled)) × (length (now filled) ≤ stringBytes) × (tlen ≤ 1024) × (1024 ≤ length (now template)) × (length (now template) < 2 ^ 48) × (1024 ≤ length (now small)) × (now arities ≡ arityColumn) ⌝ }
     ensures { λ r. ⌜ Rewritten (now (a .entry)) len n (now (template .entry)) tlen (now (shapes .entry)) (now (a .exit)) r ⌝ }
 {
     strings::place(template, tlen, small, 0);
@@ -386,7 +386,7 @@ fn rewrite_short(
     shapes: &[u32],
     filled: &mut [u8],
 ) -> Filled
-    requires { ⌜ (len ≤ length (now a)) × (length (now a) ≡ length (now filled)) × (length (now filled) ≤ 131072) × (tlen ≤ 1024) × (1024 ≤ length (now template)) × (length (now template) < 2 ^ 48) ⌝ }
+    requires { ⌜ (len ≤ length (now a)) × (length (now a) ≡ length (now filled)) × (length (now filled) ≤ stringBytes) × (tlen ≤ 1024) × (1024 ≤ length (now template)) × (length (now template) < 2 ^ 48) ⌝ }
     ensures { λ r. ⌜ Rewritten (now (a .entry)) len n (now (template .entry)) tlen (now (shapes .entry)) (now (a .exit)) r ⌝ }
 {
     let arities = rows::arity_column();
@@ -418,7 +418,7 @@ pub fn rewrite(
     shapes: &[u32],
     filled: &mut [u8],
 ) -> Filled
-    requires { ⌜ (len ≤ length (now a)) × (length (now a) ≡ length (now filled)) × (length (now filled) ≤ 131072) × (length (now template) < 2 ^ 48) ⌝ }
+    requires { ⌜ (len ≤ length (now a)) × (length (now a) ≡ length (now filled)) × (length (now filled) ≤ stringBytes) × (length (now template) < 2 ^ 48) ⌝ }
     ensures { λ r. ⌜ Rewritten (now (a .entry)) len n (now (template .entry)) tlen (now (shapes .entry)) (now (a .exit)) r ⌝ }
 {
     if tlen <= Bounds::TEMPLATE {

@@ -20,7 +20,8 @@ use Rattle.tokens.proofs.Writing.{Bytes}
 use Rattle.fields.specs.Substitution.{part}
 use Rattle.texts.specs.Text.{Declarations, shown}
 use Rattle.context.specs.Holds.{Holds, moduleNo}
-use Rattle.context.specs.Store.{Store, codesOf}
+use Rattle.context.specs.Entries.{codesOf}
+use Rattle.store.specs.Store.{Store}
 use Rattle.context.specs.declared.Counts.{Counts}
 use Rattle.resolve.specs.Look.{lookIn}
 use Rattle.resolve.specs.Meaning.{Means}

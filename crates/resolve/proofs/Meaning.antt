@@ -19,7 +19,8 @@ use Rattle.tokens.specs.declared.Token.the-variants.{Name, InstanceOperator}
 use Rattle.texts.specs.Text.{Declarations, noDeclaration, refHead}
 use Rattle.context.specs.Holds.{Holds, moduleNo}
 use Rattle.context.specs.Lookup.{asCode, broughtIn, codeNamed, codeUnder, operatorAt, operatorIn}
-use Rattle.context.specs.Store.{Store, codesOf, countAt, entryAt, fieldCode, firstAt, kindAt, variableKind}
+use Rattle.context.specs.Entries.{codesOf, entryAt, fieldCode, variableKind}
+use Rattle.store.specs.Store.{Store, countAt, firstAt, kindAt}
 use Rattle.context.specs.declared.Brought.{Brought}
 use Rattle.context.specs.declared.Brought.the-variants.{Brings, Nothing}
 use Rattle.context.specs.declared.Counts.{Counts}

@@ -20,9 +20,11 @@ use Rattle.laws.proofs.Invariant.{EntryKnown, Good, ModuleKnown}
 use Rattle.laws.proofs.Origins.{Faithful, Origins, declaration}
 use Rattle.texts.specs.Text.{Declarations, noDeclaration}
 use Rattle.context.specs.Holds.{moduleNo}
-use Rattle.context.specs.Store.{afterDeclaration, declarationRow, fieldCode, firstAt, stored}
+use Rattle.context.specs.Entries.{afterDeclaration, declarationRow, fieldCode}
+use Rattle.store.specs.Store.{firstAt}
+use Rattle.store.specs.Updates.{stored}
 use Rattle.context.specs.declared.Counts.{Counts}
-use Rattle.context.specs.declared.Row.{Row}
+use Rattle.store.specs.declared.Facts.{Facts}
 use Rattle.context.proofs.Change.{fact-first, fact-other}
 use Rattle.resolve.specs.Meaning.{Numbered}
 
@@ -121,7 +123,7 @@ module _ (facts facts′ : List ℕ) (c c′ : Counts) (fs : List Field) (f : Fi
   }
 
 -- what is stored of another code changes no number
-pub stored-keeps : (facts : List ℕ) (o : ℕ) (r : Row) (i : ℕ) → (o ≡ fieldCode i → ⊥) → firstAt (stored facts o r) (fieldCode i) ≡ firstAt facts (fieldCode i)
+pub stored-keeps : (facts : List ℕ) (o : ℕ) (r : Facts) (i : ℕ) → (o ≡ fieldCode i → ⊥) → firstAt (stored facts o r) (fieldCode i) ≡ firstAt facts (fieldCode i)
 stored-keeps facts o r i n =
     fact-other facts o r (columnCount * fieldCode i + 1)
     (λ (k : ℕ) (l : k < columnCount) (e : columnCount * fieldCode i + 1 ≡ columnCount * o + k). n (omega arith))
@@ -137,7 +139,7 @@ declares-declaration facts c fs f d kind h e q room few size =
     ∙ fact-first facts (fieldCode (c .fields)) (declarationRow kind (c .declarations)) (omega arith))
 
 -- a definition, stored at its number,
-pub declares-definition : (facts : List ℕ) (c c′ : Counts) (fs : List Field) (f : Field) (g : ℕ) (r : Row) → Declares facts c fs → declaration f ≡ none
+pub declares-definition : (facts : List ℕ) (c c′ : Counts) (fs : List Field) (f : Field) (g : ℕ) (r : Facts) → Declares facts c fs → declaration f ≡ none
     → c′ .declarations ≡ c .declarations → g < maxDefinitions → Declares (stored facts g r) c′ (fs ++ (f ∷ []))
 declares-definition facts c c′ fs f g r h e q l =
     declares-other facts (stored facts g r) c c′ fs f h (λ i _. stored-keeps facts g r i (λ (z : g ≡ fieldCode i). omega arith)) e q
@@ -148,7 +150,7 @@ pub declares-same : (facts : List ℕ) (c c′ : Counts) (fs : List Field) (f : 
 declares-same facts c c′ fs f h e q = declares-other facts facts c c′ fs f h (λ i _. refl) e q
 
 -- a store inside a field, at a definition's number or at the field's own code, before the field is counted
-pub declares-stored : (facts : List ℕ) (c c′ : Counts) (fs : List Field) (o : ℕ) (r : Row) → Declares facts c fs → c′ .declarations ≡ c .declarations
+pub declares-stored : (facts : List ℕ) (c c′ : Counts) (fs : List Field) (o : ℕ) (r : Facts) → Declares facts c fs → c′ .declarations ≡ c .declarations
     → ((i : ℕ) → i < length fs → o ≡ fieldCode i → ⊥) → Declares (stored facts o r) c′ fs
 declares-stored facts c c′ fs o r h q out = record {
   counted = q ∙ h .counted;

@@ -34,7 +34,8 @@ use Rattle.texts.specs.Text.{Declarations, noDeclaration, refHead, shown}
 use Rattle.texts.proofs.Noting.{lookHead, noted-before, noted-behind, noted-length, noted-shown}
 use Rattle.texts.proofs.Spans.{Span, SpanOf, span-found}
 use Rattle.context.specs.Holds.{Holds, moduleNo}
-use Rattle.context.specs.Store.{Store, codesOf}
+use Rattle.context.specs.Entries.{codesOf}
+use Rattle.store.specs.Store.{Store}
 use Rattle.context.specs.declared.Counts.{Counts}
 use Rattle.resolve.specs.Look.{lookIn}
 use Rattle.resolve.specs.Meaning.{Means, Numbered, headArity}

@@ -8,7 +8,7 @@ use Rattle.theory.specs.Lists.{numbersFrom}
 use Rattle.tokens.specs.declared.Token.{Token}
 use Rattle.tokens.specs.declared.Token.the-variants.{Parameter, Bound, Name, InstanceOperator, BuiltIn, Literal, NoToken}
 use Rattle.context.specs.Lookup.{asCode, broughtIn, codeNamed, codeUnder, operatorIn}
-use Rattle.context.specs.Store.{firstAt, kindAt}
+use Rattle.store.specs.Store.{firstAt, kindAt}
 use Rattle.context.specs.declared.Code.{Code}
 use Rattle.context.specs.declared.Code.the-variants.{At, Absent}
 use Rattle.context.specs.declared.Operator.{Operator}

@@ -7,7 +7,8 @@ use lib.ListN.{getD, length}
 use Rattle.theory.specs.Term.{Head, param, bound, declared, defined, builtin, leaf, kindArity}
 use Rattle.rules.specs.State.{Entry, State, declares, defines, instances, paramsOf}
 use Rattle.texts.specs.Text.{Declarations, noDeclaration, refHead}
-use Rattle.context.specs.Store.{fieldCode, firstAt}
+use Rattle.context.specs.Entries.{fieldCode}
+use Rattle.store.specs.Store.{firstAt}
 use Rattle.resolve.specs.declared.Look.{Look}
 use Rattle.resolve.specs.declared.Look.the-variants.{Ref, NoRef}
 

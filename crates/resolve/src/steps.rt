@@ -6,14 +6,17 @@ ghost use lib.ListN.{set};
 ghost use Rattle.limits.specs.Limits.{maxModules};
 ghost use Rattle.tokens.specs.Fold.{underOf};
 ghost use Rattle.texts.specs.Noted.{isName};
-ghost use Rattle.context.specs.Store.{contextCodes};
+ghost use Rattle.context.specs.Entries.{contextCodes};
 ghost use Rattle.agree.specs.Folds.{bindsOf};
 ghost use Rattle.resolve.specs.Look.{lookIn};
 ghost use Rattle.resolve.specs.Walk.{numberOf, isNoRef, wrongCount, unknownAt, miscountedAt, noteOf, inside, wordCount};
+ghost use Rattle.store.specs.Store.{held};
 use crate::Ask;
 use crate::Look;
 use crate::Looked;
 use crate::lookup::look_up;
+use store::Lent;
+use store::Store;
 use tokens::Token;
 
 fn either(a: bool, b: bool) -> bool
@@ -148,19 +151,16 @@ pub fn bound_in(left: u8, outer: usize, last: usize) -> usize
 
 // A token looked up and noted.
 pub fn look_note(
-    names: &[u16],
-    facts: &[u16],
-    contexts: &[u16],
-    heads: &[u16],
-    refs: &mut [u16],
+    store: &[u16; Store::LENGTH],
+    refs: &mut [u16; Lent::REFS],
     at: usize,
     m: usize,
     t: Token,
 ) -> Look
     requires { ⌜ m ≤ maxModules ⌝ }
-    ensures { λ r. ⌜ (r ≡ lookIn (now (names .entry)) (now (facts .entry)) (contextCodes (now (contexts .entry)) (now (heads .entry)) m) t) × (now (refs .exit) ≡ noteOf at t r (now (refs .entry))) ⌝ }
+    ensures { λ r. ⌜ (r ≡ lookIn (held (now (store .entry)) .names) (held (now (store .entry)) .facts) (contextCodes (held (now (store .entry)) .contexts) (held (now (store .entry)) .heads) m) t) × (now (refs .exit) ≡ noteOf at t r (now (refs .entry))) ⌝ }
 {
-    let l = look_up(names, facts, contexts, heads, m, t);
+    let l = look_up(store, m, t);
     note_token(refs, at, t, l);
     l
 }

@@ -25,7 +25,7 @@ use Rattle.rewriting.proofs.Found.{spelt-split}
 use Rattle.rewriting.specs.Ends.{bitAt, endOf, lastFrom}
 
 -- argument i of a call, and what stands before and after it of the arguments
-pub record Placed (a shapes : List ℕ) (σ : ℕ → ℕ) (us : Terms) (h at i : ℕ) : Type 0 where
+pub record ArgumentAt (a shapes : List ℕ) (σ : ℕ → ℕ) (us : Terms) (h at i : ℕ) : Type 0 where
   pub inside : i < count us
   pub ahead : List Symbol
   pub behind : List Symbol
@@ -59,8 +59,8 @@ module _ (a shapes : List ℕ) (σ : ℕ → ℕ) (same : shapeIn shapes ≡ σ)
           rw (same, r, piece-size σ t hs (shaped-any σ t d 0 w))
       go false f p = omega arith
 
-  later-placed : (t : Term) (ts : Terms) (h at i : ℕ) → endOf a shapes h at ≡ at + size (first h t) → Placed a shapes σ ts (h / 2) (endOf a shapes h at) i
-      → Placed a shapes σ (t ▹ ts) h at (suc i)
+  later-placed : (t : Term) (ts : Terms) (h at i : ℕ) → endOf a shapes h at ≡ at + size (first h t) → ArgumentAt a shapes σ ts (h / 2) (endOf a shapes h at) i
+      → ArgumentAt a shapes σ (t ▹ ts) h at (suc i)
   later-placed t ts h at i end r =
       let l = size-append (first h t) (r .ahead) in
       record {
@@ -73,7 +73,7 @@ module _ (a shapes : List ℕ) (σ : ℕ → ℕ) (same : shapeIn shapes ≡ σ)
       }
 
   pub placed : (us : Terms) (h at d : ℕ) (s : ℕ → ℕ) (i : ℕ) → h < 2 ^ count us → Everys (ShapedHead σ) d s us → far (masked σ h us ++ ks) ≡ false
-      → Spelt a at (masked σ h us ++ ks) (length a) → bitAt i h ≡ true → Placed a shapes σ us h at i
+      → Spelt a at (masked σ h us ++ ks) (length a) → bitAt i h ≡ true → ArgumentAt a shapes σ us h at i
   placed ⟨⟩ h at d s i u w f p b =
       let e : h ≡ 0 = omega arith in
       never (sym b ∙ ap (bitAt i) e ∙ no-bit i)

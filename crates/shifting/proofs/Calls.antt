@@ -32,7 +32,7 @@ use Rattle.rewriting.proofs.Found.{Found, Front, found, front, spelt-split}
 use Rattle.rewriting.proofs.Step.{stands-shaped}
 use Rattle.rewriting.specs.Ends.{bitAt, lastFrom, placesOf}
 use Rattle.rewriting.specs.Rewritten.{Posed, Task}
-use Rattle.shifting.proofs.CallPlaces.{Placed, bit-within, last-more, nth-every, placed}
+use Rattle.shifting.proofs.CallPlaces.{ArgumentAt, bit-within, last-more, nth-every, placed}
 use Rattle.shifting.proofs.Shifting.{closes-masked, closes-spell}
 use Rattle.shifting.specs.Part.{CallHere, Later, Part}
 use Rattle.shifting.specs.Shift.{Closes}
@@ -259,7 +259,7 @@ module _ (x : Task) (a : List ℕ) (n : ℕ) (template : List ℕ) (tlen : ℕ) 
         found a shapes (x .sense .shape) same (at .ks ++ h .later) maxParams (at .us) (getD shapes n 0) (p + 2) bound (bindsIn plain)
         (omega (arith, number, z .templated .callee .few)) bits shaped (onward .near-onward) from
 
-    argument-placed : (i : ℕ) → Placed a shapes (x .sense .shape) (at .us) (getD shapes n 0) (p + 2) i
+    argument-placed : (i : ℕ) → ArgumentAt a shapes (x .sense .shape) (at .us) (getD shapes n 0) (p + 2) i
         → Later x a n (h .start) (lastFrom a shapes i (getD shapes n 0) (p + 2)) (lastFrom a shapes (suc i) (getD shapes n 0) (p + 2)) 0
         (spell (x .sense .shape) (nth nothing (at .us) i))
     unfolding args old

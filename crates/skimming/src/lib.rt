@@ -12,6 +12,7 @@ ghost use Rattle.context.specs.Parts.{part};
 ghost use Rattle.resolve.specs.Walk.{inside, wordCount};
 ghost use Rattle.tables.specs.Serves.{Serves};
 ghost use Rattle.skimming.specs.Skims.{Heads, Leaf, Skims, SkimsAll, Steps};
+ghost use Rattle.store.specs.Store.{held};
 use limits::Limits;
 use resolve::Ask;
 use resolve::Looked;
@@ -19,16 +20,33 @@ use resolve::steps::both;
 use resolve::steps::nothing;
 use resolve::steps::with_args;
 use rows::Rows;
+use store::Store;
 use tables::names;
 use tables::token::arguments_in;
 use tables::token::token_in;
 use tokens::Token;
 
 // Where the codes of a context stand in the lent array, and how many parameters are known.
-pub struct Place {
+pub struct ContextAt {
     pub from: usize,
     pub end: usize,
     pub params: usize,
+}
+
+// Where an expression stands, how deep it may nest, and how many variables are bound around it.
+pub struct Spot {
+    pub at: usize,
+    pub nest: usize,
+    pub bound: usize,
+}
+
+// Where arguments stand, how many they are and how deep they may nest, and how many variables are bound around them and in the last of them.
+pub struct Args {
+    pub at: usize,
+    pub count: u8,
+    pub nest: usize,
+    pub around: usize,
+    pub within: usize,
 }
 
 // Whether an expression keeps the limits; if it does, its causes 9 and 10 and the position after it.
@@ -133,21 +151,17 @@ fn moved(a: Looked, next: usize) -> Looked
 
 // What is known after a token, from what is known before it.
 fn head(
-    column: &[u16],
-    table: &[u8],
-    nexts: &[u8],
-    contexts: &[u16],
-    names: &[u16],
-    facts: &[u16],
-    p: Place,
+    tables: &[u8],
+    store: &[u16; Store::LENGTH],
+    p: ContextAt,
     bound: usize,
     t: Token,
     a: Looked,
 ) -> Looked
-    requires { ⌜ Serves (now names) (now contexts) (now column) (now table) (now nexts) (p .from) (p .end) ⌝ }
-    ensures { λ r. ⌜ Heads (now (names .entry)) (now (facts .entry)) (part (now (contexts .entry)) (p .from) (p .end - p .from)) (p .params) bound t a r ⌝ }
+    requires { ⌜ Serves (held (now store)) (now tables) (p .from) (p .end) ⌝ }
+    ensures { λ r. ⌜ Heads (held (now (store .entry)) .names) (held (now (store .entry)) .facts) (part (held (now (store .entry)) .contexts) (p .from) (p .end - p .from)) (p .params) bound t a r ⌝ }
 {
-    let l = names::look(names, facts, contexts, table, nexts, p.from, p.end, t);
+    let l = names::look(store, tables, p.from, p.end, t);
     let ask = Ask {
         module: 0,
         params: p.params,
@@ -160,17 +174,14 @@ fn head(
 fn any_step(
     s: &[u8],
     column: &[u16],
-    table: &[u8],
-    nexts: &[u8],
-    contexts: &[u16],
-    names: &[u16],
-    facts: &[u16],
-    p: Place,
+    tables: &[u8],
+    store: &[u16; Store::LENGTH],
+    p: ContextAt,
     bound: usize,
     a: Looked,
 ) -> Step
-    requires { ⌜ Serves (now names) (now contexts) (now column) (now table) (now nexts) (p .from) (p .end) × (bound < wordCount) ⌝ }
-    ensures { λ r. ⌜ Steps (now (names .entry)) (now (facts .entry)) (part (now (contexts .entry)) (p .from) (p .end - p .from)) (p .params) bound (now (s .entry)) a r ⌝ }
+    requires { ⌜ (now column ≡ rowColumn) × Serves (held (now store)) (now tables) (p .from) (p .end) × (bound < wordCount) ⌝ }
+    ensures { λ r. ⌜ Steps (held (now (store .entry)) .names) (held (now (store .entry)) .facts) (part (held (now (store .entry)) .contexts) (p .from) (p .end - p .from)) (p .params) bound (now (s .entry)) a r ⌝ }
 {
     let at = a.next;
     let t = token_in(s, column, at);
@@ -180,7 +191,7 @@ fn any_step(
             return no_step(bound, a);
         }
         let b = moved(a, at + tokens::width(t));
-        let looked = head(column, table, nexts, contexts, names, facts, p, bound, t, b);
+        let looked = head(tables, store, p, bound, t, b);
         return Step {
             kept: true,
             count: k,
@@ -195,17 +206,14 @@ fn any_step(
 fn next_step(
     s: &[u8],
     column: &[u16],
-    table: &[u8],
-    nexts: &[u8],
-    contexts: &[u16],
-    names: &[u16],
-    facts: &[u16],
-    p: Place,
+    tables: &[u8],
+    store: &[u16; Store::LENGTH],
+    p: ContextAt,
     bound: usize,
     a: Looked,
 ) -> Step
-    requires { ⌜ Serves (now names) (now contexts) (now column) (now table) (now nexts) (p .from) (p .end) × (bound < wordCount) ⌝ }
-    ensures { λ r. ⌜ Steps (now (names .entry)) (now (facts .entry)) (part (now (contexts .entry)) (p .from) (p .end - p .from)) (p .params) bound (now (s .entry)) a r ⌝ }
+    requires { ⌜ (now column ≡ rowColumn) × Serves (held (now store)) (now tables) (p .from) (p .end) × (bound < wordCount) ⌝ }
+    ensures { λ r. ⌜ Steps (held (now (store .entry)) .names) (held (now (store .entry)) .facts) (part (held (now (store .entry)) .contexts) (p .from) (p .end - p .from)) (p .params) bound (now (s .entry)) a r ⌝ }
 {
     let at = a.next;
     if at < s.len() {
@@ -230,40 +238,32 @@ fn next_step(
             }
         }
     }
-    any_step(s, column, table, nexts, contexts, names, facts, p, bound, a)
+    any_step(s, column, tables, store, p, bound, a)
 }
 
-// At most eight arguments from a position on; in the last of them `within` variables are bound, in the others `around`. Where one is left, its
-// own arguments are what is left.
+// At most eight arguments. Where one is left, its own arguments are what is left.
 fn skim_args(
     s: &[u8],
     column: &[u16],
-    table: &[u8],
-    nexts: &[u8],
-    contexts: &[u16],
-    names: &[u16],
-    facts: &[u16],
-    at: usize,
-    count: u8,
-    nesting: usize,
-    p: Place,
-    around: usize,
-    within: usize,
+    tables: &[u8],
+    store: &[u16; Store::LENGTH],
+    p: ContextAt,
+    g: Args,
 ) -> Skimmed
-    requires { ⌜ Serves (now names) (now contexts) (now column) (now table) (now nexts) (p .from) (p .end) × (around + nesting < wordCount) × (within + nesting < wordCount) × (count ≤ maxArity) ⌝ }
-    ensures { λ r. ⌜ SkimsAll (now (names .entry)) (now (facts .entry)) (part (now (contexts .entry)) (p .from) (p .end - p .from)) (p .params) around within (several (exprAt nesting (now (s .entry))) at count) (r .kept) (r .looked) ⌝ }
+    requires { ⌜ (now column ≡ rowColumn) × Serves (held (now store)) (now tables) (p .from) (p .end) × (g .around + g .nest < wordCount) × (g .within + g .nest < wordCount) × (g .count ≤ maxArity) ⌝ }
+    ensures { λ r. ⌜ SkimsAll (held (now (store .entry)) .names) (held (now (store .entry)) .facts) (part (held (now (store .entry)) .contexts) (p .from) (p .end - p .from)) (p .params) (g .around) (g .within) (several (exprAt (g .nest) (now (s .entry))) (g .at) (g .count)) (r .kept) (r .looked) ⌝ }
 {
-    let mut a = nothing(at);
-    let mut k = count;
-    let mut nest = nesting;
-    let mut outer = around;
-    let mut last = within;
+    let mut a = nothing(g.at);
+    let mut k = g.count;
+    let mut nest = g.nest;
+    let mut outer = g.around;
+    let mut last = g.within;
     while k != 0 {
         if nest == 0 {
-            return stopped(at);
+            return stopped(g.at);
         }
         let e = under(k, outer, last);
-        let t = next_step(s, column, table, nexts, contexts, names, facts, p, e, a);
+        let t = next_step(s, column, tables, store, p, e, a);
         if t.kept {
             a = t.looked;
             if t.count == 0 {
@@ -277,29 +277,22 @@ fn skim_args(
                 last = t.inner;
                 continue;
             }
-            let b = skim_args(
-                s,
-                column,
-                table,
-                nexts,
-                contexts,
-                names,
-                facts,
-                a.next,
-                t.count,
-                nest - 1,
-                p,
-                e,
-                t.inner,
-            );
+            let inner = Args {
+                at: a.next,
+                count: t.count,
+                nest: nest - 1,
+                around: e,
+                within: t.inner,
+            };
+            let b = skim_args(s, column, tables, store, p, inner);
             if b.kept {
                 a = both(a, b.looked);
                 k -= 1;
                 continue;
             }
-            return stopped(at);
+            return stopped(g.at);
         }
-        return stopped(at);
+        return stopped(g.at);
     }
     Skimmed {
         kept: true,
@@ -307,36 +300,24 @@ fn skim_args(
     }
 }
 
-// The expression at a position that nests at most `nest` deep.
+// The expression at a place.
 pub fn skim_expr(
     s: &[u8],
     column: &[u16],
-    table: &[u8],
-    nexts: &[u8],
-    contexts: &[u16],
-    names: &[u16],
-    facts: &[u16],
-    at: usize,
-    nest: usize,
-    p: Place,
-    bound: usize,
+    tables: &[u8],
+    store: &[u16; Store::LENGTH],
+    p: ContextAt,
+    e: Spot,
 ) -> Skimmed
-    requires { ⌜ Serves (now names) (now contexts) (now column) (now table) (now nexts) (p .from) (p .end) × (bound + nest < wordCount) ⌝ }
-    ensures { λ r. ⌜ Skims (now (names .entry)) (now (facts .entry)) (part (now (contexts .entry)) (p .from) (p .end - p .from)) (p .params) bound (exprAt nest (now (s .entry)) at) (r .kept) (r .looked) ⌝ }
+    requires { ⌜ (now column ≡ rowColumn) × Serves (held (now store)) (now tables) (p .from) (p .end) × (e .bound + e .nest < wordCount) ⌝ }
+    ensures { λ r. ⌜ Skims (held (now (store .entry)) .names) (held (now (store .entry)) .facts) (part (held (now (store .entry)) .contexts) (p .from) (p .end - p .from)) (p .params) (e .bound) (exprAt (e .nest) (now (s .entry)) (e .at)) (r .kept) (r .looked) ⌝ }
 {
-    skim_args(
-        s,
-        column,
-        table,
-        nexts,
-        contexts,
-        names,
-        facts,
-        at,
-        1,
-        nest,
-        p,
-        bound,
-        bound,
-    )
+    let g = Args {
+        at: e.at,
+        count: 1,
+        nest: e.nest,
+        around: e.bound,
+        within: e.bound,
+    };
+    skim_args(s, column, tables, store, p, g)
 }

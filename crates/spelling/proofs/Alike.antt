@@ -19,7 +19,7 @@ use Rattle.texts.specs.Noted.{isName}
 use Rattle.texts.specs.Text.{Declarations, noDeclaration}
 use Rattle.symbols.specs.Symbol.{Symbol, code, name}
 use Rattle.symbols.specs.Spell.{bracketed, callHead, maskOf, masked, spell, spells}
-use Rattle.unfolding.specs.InWorld.{Place, called, declaredIn, namedIn, standIn, termIn, termsIn, tokenIn}
+use Rattle.unfolding.specs.InWorld.{Setting, called, declaredIn, namedIn, standIn, termIn, termsIn, tokenIn}
 use Rattle.spelling.specs.Strings.{AllLooksBelow, LooksBelow}
 
 -- argument lists of the same strings
@@ -47,7 +47,7 @@ module _ (σ : ℕ → ℕ) where
   same-called : (outer n : ℕ) (us vs : Terms) → Alike σ us vs → spell σ (called outer n us) ≡ spell σ (called outer n vs)
   same-called outer n us vs a = ap (λ (x : List Symbol). callHead (σ n) n ++ x) (masked-after 0 outer (maskOf (σ n)) us vs a)
 
-  module _ (decls decls′ : Declarations) (P : Place)
+  module _ (decls decls′ : Declarations) (P : Setting)
       (same : (d : ℕ) → d < length decls → getD decls d noDeclaration .1 ≡ getD decls′ d noDeclaration .1) where
     same-declared : (l outer r : ℕ) (us vs : Terms) → Alike σ us vs → maxDefinitions ≤ r → r < maxDefinitions + length decls
         → spell σ (declaredIn decls l outer r us) ≡ spell σ (declaredIn decls′ l outer r vs)

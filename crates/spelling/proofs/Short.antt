@@ -21,7 +21,7 @@ use Rattle.tokens.proofs.Places.{cases}
 use Rattle.texts.specs.Text.{Declarations}
 use Rattle.symbols.specs.Symbol.{Symbol, bytesOf, call, end, par, size}
 use Rattle.symbols.specs.Spell.{aloneShape, bracketed, callHead, maskOf, masked, spell, spells}
-use Rattle.unfolding.specs.InWorld.{Place, called, declaredIn, impliedIn, namedIn, standIn, termIn, termsIn, tokenIn}
+use Rattle.unfolding.specs.InWorld.{Setting, called, declaredIn, impliedIn, namedIn, standIn, termIn, termsIn, tokenIn}
 use Rattle.spelling.specs.Strings.{growth}
 use Rattle.spelling.proofs.Parting.{bytes-append}
 
@@ -149,7 +149,7 @@ module _ (σ : ℕ → ℕ) where
       at (suc zero) n = absurd (n refl)
       at (suc (suc i)) n = refl
 
-  module _ (decls : Declarations) (P : Place) (outer-few : P .outer ≤ maxArity) where
+  module _ (decls : Declarations) (P : Setting) (outer-few : P .outer ≤ maxArity) where
     size-declared : (l r : ℕ) (us : Terms) (w : ℕ) → Measured σ us w → 2 * size (spell σ (declaredIn decls l (P .outer) r us)) ≤ 4 * growth + w
     size-declared zero r us w a = let f = a .flat (bindsIn plain) (λ i. refl) in omega arith
     size-declared (suc l) r us w a = let f = size-called (P .outer) (standIn (suc l) r) us w a in omega arith

@@ -19,11 +19,11 @@ use Rattle.texts.specs.Text.{Declarations, noDeclaration}
 use Rattle.symbols.specs.Symbol.{At, Symbol, bytesOf}
 use Rattle.symbols.specs.Spell.{shapeLimit, spell}
 use Rattle.text_levels.proofs.OwnWorld.{AllRefsBelow, RefsBelow}
-use Rattle.unfolding.specs.InWorld.{Place, byRefs, namedIn, termIn}
+use Rattle.unfolding.specs.InWorld.{Setting, byRefs, namedIn, termIn}
 use Rattle.spelling.specs.Put.{Put, paste}
 use Rattle.spelling.specs.Parts.{parts}
 use Rattle.spelling.specs.Written.{Led, Named, Wrote, declarationsIn, placeOf, shapeIn}
-use Rattle.spelling.specs.Strings.{AllLooksBelow, Bytes, ImpliedString, LooksBelow, NamesShown, Narrow, ShapesFit, Spells, TextString, shapesOf}
+use Rattle.spelling.specs.Strings.{AllLooksBelow, Bytes, ImpliedString, LooksBelow, NamesShown, NumbersFit, Narrow, ShapesFit, Spells, TextString, shapesOf}
 use Rattle.spelling.proofs.Heading.{name-shown, put-symbols}
 use Rattle.spelling.proofs.Small.{count-params, small, small-bytes, small-implied, small-string, small-text}
 use Rattle.spelling.proofs.Alike.{same-implied, same-string}
@@ -61,7 +61,7 @@ unfolding shapeIn
 shapes-same shapes h = fun-ext (λ n. rw (lt-ltb (getD shapes n 0) shapeLimit (h n)))
 
 -- the names of the declarations, by the arrays
-module _ (names declared : List ℕ) (names-fit : (i : ℕ) → getD names i 0 < 65536) where
+module _ (names declared : List ℕ) (names-fit : NumbersFit names) where
   names-small : (d : ℕ) → getD (declarationsIn names declared) d noDeclaration .1 < 65536
   unfolding declarationsIn
   names-small d = go 0 65536 d
@@ -76,7 +76,7 @@ module _ (names declared : List ℕ) (names-fit : (i : ℕ) → getD names i 0 <
   names-same decls few shown d h = sym (shown d h) ∙ name-shown names declared d (omega arith)
 
   -- what was put by the arrays is the string of a text, or of what a name implies
-  module _ (shapes : List ℕ) (P : Place) (out out′ : List ℕ) (q′ : ℕ) (fits : Bool) (e : fits ≡ leb q′ (length out)) where
+  module _ (shapes : List ℕ) (P : Setting) (out out′ : List ℕ) (q′ : ℕ) (fits : Bool) (e : fits ≡ leb q′ (length out)) where
     pub spells-text : (look : ℕ → Token → ℕ) (s : List ℕ) (bytes : (i : ℕ) → getD s i 0 < 256) (n at : ℕ) (t : Expr) (y : ℕ) → exprAt n s at ≡ found t y
         → Put out 0 (bytesOf (spell (shapeIn shapes) (termIn look (declarationsIn names declared) P t))) out′ q′
         → (decls : Declarations) → LooksBelow (maxDefinitions + length decls) look t → length decls ≤ maxDeclarations → NamesShown names declared decls → ShapesFit shapes
@@ -108,7 +108,7 @@ module _ (names declared : List ℕ) (names-fit : (i : ℕ) → getD names i 0 <
         (subst (λ (gs : List Symbol). All small gs) (sym f) (small-implied (shapesOf shapes) ds P names-small r i p l)) narrow in
         spells-put (spell (shapesOf shapes) (namedIn decls P r us)) out out′ q′ fits (subst (λ (gs : List Symbol). Put out 0 (bytesOf gs) out′ q′) g d) b e
 
-pub found-put : (look : ℕ → Token → ℕ) (σ : ℕ → ℕ) (decls : Declarations) (P : Place) (f : Found) (out : List ℕ) (q : ℕ) (out′ : List ℕ) (q′ x : ℕ) (t : Expr) (y : ℕ) → f ≡ found t y
+pub found-put : (look : ℕ → Token → ℕ) (σ : ℕ → ℕ) (decls : Declarations) (P : Setting) (f : Found) (out : List ℕ) (q : ℕ) (out′ : List ℕ) (q′ x : ℕ) (t : Expr) (y : ℕ) → f ≡ found t y
     → Wrote look σ decls P f out q out′ q′ x → Put out q (bytesOf (spell σ (termIn look decls P t))) out′ q′
 unfolding Wrote
 found-put look σ decls P f out q out′ q′ x t y p w =
@@ -125,7 +125,7 @@ mutual
 
 -- the walk from the start on
 pub text-string : (s refs names declared numbers shapes : List ℕ) (at level outer : ℕ) (out out′ : List ℕ) (q′ x : ℕ) (fits : Bool) → ((i : ℕ) → getD s i 0 < 256)
-    → ((i : ℕ) → getD names i 0 < 65536)
+    → NumbersFit names
     → Wrote (byRefs refs) (shapeIn shapes) (declarationsIn names declared) (placeOf level outer numbers) (exprAt maxNesting s at) out 0 out′ q′ x
     → fits ≡ leb q′ (length out′) → length out′ ≡ length out → TextString s refs names declared numbers shapes at level outer out′ (length out) fits q′
 text-string s refs names declared numbers shapes at level outer out out′ q′ x fits bytes names-fit w f l =
@@ -139,13 +139,13 @@ text-string s refs names declared numbers shapes at level outer out out′ q′ 
     }
 
 pub implied-string : (names declared numbers shapes : List ℕ) (r level outer p k j i : ℕ) (out out₁ : List ℕ) (all : Bool) (m : ℕ) (binds : Bool) (q₁ : ℕ) (out′ : List ℕ)
-    (all′ : Bool) (m′ : ℕ) (binds′ : Bool) (q′ : ℕ) (fits : Bool) → ((i : ℕ) → getD names i 0 < 65536) → k < 256 → j ≡ k → i ≡ outer + p
+    (all′ : Bool) (m′ : ℕ) (binds′ : Bool) (q′ : ℕ) (fits : Bool) → NumbersFit names → k < 256 → j ≡ k → i ≡ outer + p
     → Named (shapeIn shapes) (declarationsIn names declared) (placeOf level outer numbers) r j out 0 out₁ all m binds q₁
     → Led i k all m out₁ q₁ out′ all′ m′ binds′ q′ → fits ≡ leb q′ (length out′) → length out′ ≡ length out
     → ImpliedString names declared numbers shapes r level outer p k out′ (length out) fits q′
 implied-string names declared numbers shapes r level outer p k j i out out₁ all m binds q₁ out′ all′ m′ binds′ q′ fits names-fit lk ej ei d l f z =
     let e : fits ≡ leb q′ (length out) = f ∙ ap (leb q′) z in
-    let P : Place = placeOf level outer numbers in
+    let P : Setting = placeOf level outer numbers in
     let us : Terms = paramsFrom (outer + p) k in
     let g : spell (shapeIn shapes) (namedIn (declarationsIn names declared) P r us) ≡ d .first ++ parts (shapeIn shapes) all m false us =
     d .rest us (count-params (outer + p) k ∙ sym ej) ∙ ap (λ (b : Bool). d .first ++ parts (shapeIn shapes) all m b us) (d .plain) in

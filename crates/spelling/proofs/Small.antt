@@ -22,7 +22,7 @@ use Rattle.tokens.proofs.Places.{cases}
 use Rattle.texts.specs.Text.{Declarations, noDeclaration}
 use Rattle.symbols.specs.Symbol.{Symbol, begin, bytesOf, call, code, end, name, number, par, symbolBytes, var}
 use Rattle.symbols.specs.Spell.{aloneShape, bracketed, callHead, maskOf, masked, spell, spells}
-use Rattle.unfolding.specs.InWorld.{Place, called, declaredIn, namedIn, standIn, termIn, termsIn, tokenIn}
+use Rattle.unfolding.specs.InWorld.{Setting, called, declaredIn, namedIn, standIn, termIn, termsIn, tokenIn}
 use Rattle.spelling.specs.Strings.{Bytes, Narrow, narrow}
 
 -- numbers that bytes hold
@@ -158,7 +158,7 @@ module _ (σ : ℕ → ℕ) where
   small-called outer n us a =
       append-all small (callHead (σ n) n) (masked σ (maskOf (σ n)) (join (paramsFrom 0 outer) us)) (small-head (σ n) n) (small-after-params 0 outer (maskOf (σ n)) us a)
 
-  module _ (decls : Declarations) (P : Place) (named : (d : ℕ) → getD decls d noDeclaration .1 < 65536) where
+  module _ (decls : Declarations) (P : Setting) (named : (d : ℕ) → getD decls d noDeclaration .1 < 65536) where
     small-declared : (l outer r : ℕ) (us : Terms) → SmallParts σ us → count us < 256 → All small (spell σ (declaredIn decls l outer r us))
     small-declared zero outer r us a k = ((named (r - maxDefinitions), k), a .plainly (bindsIn plain))
     small-declared (suc l) outer r us a k = small-called outer (standIn (suc l) r) us a

@@ -18,7 +18,7 @@ use Rattle.tokens.proofs.Reading.{expr-more, expr-none, expr-zero, several-more
 use Rattle.texts.specs.Text.{Declarations}
 use Rattle.symbols.specs.Symbol.{Symbol, begin, bytesOf, end}
 use Rattle.symbols.specs.Spell.{bracketed, spell}
-use Rattle.unfolding.specs.InWorld.{Place, byRefs, termIn, termsIn, tokenIn}
+use Rattle.unfolding.specs.InWorld.{Setting, byRefs, termIn, termsIn, tokenIn}
 use Rattle.spelling.specs.Put.{Put}
 use Rattle.spelling.specs.Parts.{Closed, Opened, boundBefore, isWritten, part, parts}
 use Rattle.spelling.specs.Written.{AllWrote, ArgumentWrote, Headed, Wrote}
@@ -75,7 +75,7 @@ argument false inside gs out q out₁ q₁ out₂ q₂ out₃ q₃ a p b =
     rw (z .0, z .1, put-past out (bytesOf gs) out₂ q₂ r) (put-none out q)
 
 -- what a name at a position was resolved to
-token-same : (look : ℕ → Token → ℕ) (decls : Declarations) (P : Place) (at : ℕ) (t : Token) (r : ℕ) (ts : Terms) → r ≡ look at t
+token-same : (look : ℕ → Token → ℕ) (decls : Declarations) (P : Setting) (at : ℕ) (t : Token) (r : ℕ) (ts : Terms) → r ≡ look at t
     → tokenIn look decls P at t ts ≡ tokenIn (λ a u. r) decls P at t ts
 token-same look decls P at (Parameter i) r ts e = refl
 token-same look decls P at (Bound j) r ts e = refl
@@ -85,7 +85,7 @@ token-same look decls P at (BuiltIn c) r ts e = refl
 token-same look decls P at (Literal v) r ts e = refl
 token-same look decls P at NoToken r ts e = refl
 
-module _ (look : ℕ → Token → ℕ) (σ : ℕ → ℕ) (decls : Declarations) (P : Place) where
+module _ (look : ℕ → Token → ℕ) (σ : ℕ → ℕ) (decls : Declarations) (P : Setting) where
   count-terms : (ts : Exprs) → count (termsIn look decls P ts) ≡ count ts
   count-terms ⟨⟩ = refl
   count-terms (t ▹ ts) = ap suc (count-terms ts)
@@ -162,7 +162,7 @@ module _ (look : ℕ → Token → ℕ) (σ : ℕ → ℕ) (decls : Declarations
   args-none f at k all m binds out q h = rw h (put-none out q, refl, refl)
 
 -- by the table of what names were resolved to
-pub text-token : (refs : List ℕ) (σ : ℕ → ℕ) (decls : Declarations) (P : Place) (n : ℕ) (s : List ℕ) (at : ℕ) (out : List ℕ) (q : ℕ) (out′ : List ℕ) (q′ x : ℕ) (t : Token) (i : Bool)
+pub text-token : (refs : List ℕ) (σ : ℕ → ℕ) (decls : Declarations) (P : Setting) (n : ℕ) (s : List ℕ) (at : ℕ) (out : List ℕ) (q : ℕ) (out′ : List ℕ) (q′ x : ℕ) (t : Token) (i : Bool)
     (r w k : ℕ) (all : Bool) (m : ℕ) (binds : Bool) (out₁ : List ℕ) (q₁ : ℕ) → (n ≡ 0 → ⊥) → t ≡ tokenAt s at → i ≡ isToken t
     → i ≡ true → r ≡ getD refs at 0 → Headed σ decls P t r out q out₁ all m binds q₁ → w ≡ widthOf t → k ≡ argumentsOf t
     → AllWrote (byRefs refs) σ decls P (several (exprAt (n - 1) s) (at + w) k) k all m binds out₁ q₁ out′ q′ x → Wrote (byRefs refs) σ decls P (exprAt n s at) out q out′ q′ x

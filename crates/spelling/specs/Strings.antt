@@ -27,6 +27,10 @@ shapesOf shapes n = getD shapes n 0
 abbrev pub ShapesFit : List ℕ → Type 0
 ShapesFit shapes = (n : ℕ) → getD shapes n 0 < shapeLimit
 
+-- every number takes two bytes
+abbrev pub NumbersFit : List ℕ → Type 0
+NumbersFit l = (i : ℕ) → getD l i 0 < 65536
+
 -- the arrays hold the declarations' names
 abbrev pub NamesShown : List ℕ → List ℕ → Declarations → Type 0
 NamesShown names declared decls = (d : ℕ) → d < length decls → getD names (getD declared d 0) 0 ≡ getD decls d noDeclaration .1

@@ -17,7 +17,7 @@ use Rattle.tokens.specs.declared.Token.{Token}
 use Rattle.texts.specs.Text.{Declarations}
 use Rattle.symbols.specs.Symbol.{Symbol, bytesOf, code, par}
 use Rattle.symbols.specs.Spell.{bracketed, shapeLimit, spell, spells}
-use Rattle.unfolding.specs.InWorld.{Place, called, namedIn, termIn, termsIn, tokenIn}
+use Rattle.unfolding.specs.InWorld.{Setting, called, namedIn, termIn, termsIn, tokenIn}
 use Rattle.spelling.specs.Put.{Put}
 use Rattle.spelling.specs.Parts.{isWritten, parts}
 
@@ -29,10 +29,10 @@ shapeIn shapes n = cond (ltb (getD shapes n 0) shapeLimit) (getD shapes n 0) 0
 unfoldable pub declarationsIn : List ℕ → List ℕ → Declarations
 declarationsIn names declared = map (λ (d : ℕ). (variable, getD names (getD declared d 0) 0)) (numbersFrom 0 65536)
 
-abbrev pub placeOf : ℕ → ℕ → List ℕ → Place
+abbrev pub placeOf : ℕ → ℕ → List ℕ → Setting
 placeOf level outer numbers = record { level = level; outer = outer; numbers = numbers }
 
-module _ (look : ℕ → Token → ℕ) (σ : ℕ → ℕ) (decls : Declarations) (P : Place) where
+module _ (look : ℕ → Token → ℕ) (σ : ℕ → ℕ) (decls : Declarations) (P : Setting) where
   -- the string of what is found is put, and x is the position after it
   unfoldable pub Wrote : Found → List ℕ → ℕ → List ℕ → ℕ → ℕ → Type 0
   Wrote (found t e) out q out′ q′ x = Put out q (bytesOf (spell σ (termIn look decls P t))) out′ q′ × (x ≡ e)
@@ -68,7 +68,7 @@ pub record Called (σ : ℕ → ℕ) (outer n : ℕ) (out : List ℕ) (q : ℕ) 
   pub plain : binds ≡ false
 
 -- The first symbols of a name that was resolved to r, over k arguments, are put; and what is left to be written.
-pub record Named (σ : ℕ → ℕ) (decls : Declarations) (P : Place) (r k : ℕ) (out : List ℕ) (q : ℕ) (out′ : List ℕ) (all : Bool) (m : ℕ) (binds : Bool) (q′ : ℕ) : Type 0 where
+pub record Named (σ : ℕ → ℕ) (decls : Declarations) (P : Setting) (r k : ℕ) (out : List ℕ) (q : ℕ) (out′ : List ℕ) (all : Bool) (m : ℕ) (binds : Bool) (q′ : ℕ) : Type 0 where
   pub first : List Symbol
   pub put : Put out q (bytesOf first) out′ q′
   pub rest : (ts : Terms) → count ts ≡ k → spell σ (namedIn decls P r ts) ≡ first ++ parts σ all m binds ts
@@ -80,7 +80,7 @@ pub record BuiltInPut (c : ℕ) (out : List ℕ) (q : ℕ) (out′ : List ℕ) (
   pub rest : (σ : ℕ → ℕ) (ts : Terms) → count ts ≡ arityOf c → spells σ (bindsIn (codeBinder c)) ts ≡ parts σ all m binds ts
 
 -- the same of a token, r being what it was resolved to if it is a name
-pub record Headed (σ : ℕ → ℕ) (decls : Declarations) (P : Place) (t : Token) (r : ℕ) (out : List ℕ) (q : ℕ) (out′ : List ℕ) (all : Bool) (m : ℕ) (binds : Bool) (q′ : ℕ) : Type 0 where
+pub record Headed (σ : ℕ → ℕ) (decls : Declarations) (P : Setting) (t : Token) (r : ℕ) (out : List ℕ) (q : ℕ) (out′ : List ℕ) (all : Bool) (m : ℕ) (binds : Bool) (q′ : ℕ) : Type 0 where
   pub first : List Symbol
   pub put : Put out q (bytesOf first) out′ q′
   pub rest : (at : ℕ) (ts : Terms) → count ts ≡ argumentsOf t → spell σ (tokenIn (λ a u. r) decls P at t ts) ≡ first ++ parts σ all m binds ts

@@ -10,8 +10,9 @@ ghost use Rattle.texts.specs.Text.{noDeclaration};
 ghost use Rattle.spelling.specs.Put.{Put};
 ghost use Rattle.spelling.specs.Parts.{isWritten};
 ghost use Rattle.spelling.specs.Written.{shapeIn, declarationsIn, placeOf, BuiltInPut, Called, Led, Lead, Named, Headed};
+ghost use Rattle.store.specs.Store.{held};
+use crate::ChainDepth;
 use crate::Rest;
-use crate::Site;
 use crate::put::put_call;
 use crate::put::put_name;
 use crate::put::put_number;
@@ -19,11 +20,14 @@ use crate::put::put_pair;
 use crate::put::put_parameter;
 use context::lists::number_at;
 use limits::Limits;
+use store::Store;
+use store::reading::declared_at;
+use store::reading::name_at;
 use symbols::Shape;
 use tokens::Token;
 
 // The shape of what a number calls.
-fn shape_at(shapes: &[u32], n: usize) -> u32
+fn valid_shape_at(shapes: &[u32], n: usize) -> u32
     ensures { λ r. ⌜ (r ≡ shapeIn (now (shapes .entry)) n) × (r < shapeLimit) ⌝ }
 {
     let h = symbols::shape_at(shapes, n);
@@ -105,7 +109,7 @@ pub fn call(shapes: &[u32], out: &mut [u8], n: usize, outer: usize, q: usize) ->
     requires { ⌜ (n < 2 ^ 32) × (outer ≤ maxArity) ⌝ }
     ensures { λ r. ⌜ Called (shapeIn (now (shapes .entry))) outer n (now (out .entry)) q (now (out .exit)) (r .all) (r .mask) (r .binds) (r .to) ⌝ }
 {
-    let h = shape_at(shapes, n);
+    let h = valid_shape_at(shapes, n);
     let to = call_head(out, q, h, n);
     let mask = mask_of(h);
     let rest = Rest {
@@ -118,36 +122,35 @@ pub fn call(shapes: &[u32], out: &mut [u8], n: usize, outer: usize, q: usize) ->
 }
 
 // The name of the declaration that r stands for.
-fn declared_name(names: &[u16], declared: &[u16], r: usize) -> u16
+fn declared_name(store: &[u16; Store::LENGTH], r: usize) -> u16
     requires { ⌜ (maxDefinitions ≤ r) × (r < 2 ^ 16) ⌝ }
-    ensures { λ x. ⌜ x ≡ (getD (declarationsIn (now (names .entry)) (now (declared .entry))) (r - maxDefinitions) noDeclaration) .1 ⌝ }
+    ensures { λ x. ⌜ x ≡ (getD (declarationsIn (held (now (store .entry)) .names) (held (now (store .entry)) .declared)) (r - maxDefinitions) noDeclaration) .1 ⌝ }
 {
     let d = r - Limits::DEFINITIONS;
-    let o = number_at(declared, d) as usize;
-    number_at(names, o)
+    let o = declared_at(store, d) as usize;
+    name_at(store, o)
 }
 
 // The first symbols of a name that was resolved to r, over k arguments.
 pub fn named(
-    names: &[u16],
-    declared: &[u16],
+    store: &[u16; Store::LENGTH],
     numbers: &[u16],
     shapes: &[u32],
     out: &mut [u8],
     r: usize,
     k: u8,
-    site: Site,
+    site: ChainDepth,
     q: usize,
 ) -> Rest
     requires { ⌜ (site .level < 16) × (site .outer ≤ maxArity) × (r < 2 ^ 16) ⌝ }
-    ensures { λ x. ⌜ Named (shapeIn (now (shapes .entry))) (declarationsIn (now (names .entry)) (now (declared .entry))) (placeOf (site .level) (site .outer) (now (numbers .entry))) r k (now (out .entry)) q (now (out .exit)) (x .all) (x .mask) (x .binds) (x .to) ⌝ }
+    ensures { λ x. ⌜ Named (shapeIn (now (shapes .entry))) (declarationsIn (held (now (store .entry)) .names) (held (now (store .entry)) .declared)) (placeOf (site .level) (site .outer) (now (numbers .entry))) r k (now (out .entry)) q (now (out .exit)) (x .all) (x .mask) (x .binds) (x .to) ⌝ }
 {
     if r < Limits::DEFINITIONS {
         let n = number_at(numbers, r) as usize;
         return call(shapes, out, n, site.outer, q);
     }
     if site.level == 0 {
-        let x = declared_name(names, declared, r);
+        let x = declared_name(store, r);
         let to = put_name(out, q, x, k);
         return Rest {
             to,
@@ -193,36 +196,24 @@ fn built_in(out: &mut [u8], c: u8, q: usize) -> Rest
 
 // The first symbols of a token, r being what it was resolved to if it is a name.
 pub fn head(
-    names: &[u16],
-    declared: &[u16],
+    store: &[u16; Store::LENGTH],
     numbers: &[u16],
     shapes: &[u32],
     out: &mut [u8],
     t: Token,
     r: u16,
-    site: Site,
+    site: ChainDepth,
     q: usize,
 ) -> Rest
     requires { ⌜ (site .level < 16) × (site .outer ≤ maxArity) ⌝ }
-    ensures { λ x. ⌜ Headed (shapeIn (now (shapes .entry))) (declarationsIn (now (names .entry)) (now (declared .entry))) (placeOf (site .level) (site .outer) (now (numbers .entry))) t r (now (out .entry)) q (now (out .exit)) (x .all) (x .mask) (x .binds) (x .to) ⌝ }
+    ensures { λ x. ⌜ Headed (shapeIn (now (shapes .entry))) (declarationsIn (held (now (store .entry)) .names) (held (now (store .entry)) .declared)) (placeOf (site .level) (site .outer) (now (numbers .entry))) t r (now (out .entry)) q (now (out .exit)) (x .all) (x .mask) (x .binds) (x .to) ⌝ }
 {
     match t {
         Token::Parameter(i) => ended(put_parameter(out, q, site.outer + (i as usize))),
         Token::Bound(j) => ended(put_number(out, q, 1, j)),
-        Token::Name(_, k) => named(
-            names,
-            declared,
-            numbers,
-            shapes,
-            out,
-            r as usize,
-            k,
-            site,
-            q,
-        ),
+        Token::Name(_, k) => named(store, numbers, shapes, out, r as usize, k, site, q),
         Token::InstanceOperator(_, _, k) => named(
-            names,
-            declared,
+            store,
             numbers,
             shapes,
             out,

@@ -6,14 +6,18 @@ pub mod walk;
 ghost use Prim.Native.Nat.{_<_, _≤_};
 ghost use lib.ListN.{length};
 ghost use Rattle.limits.specs.Limits.{maxArity};
-ghost use Rattle.spelling.specs.Strings.{ImpliedString, TextString};
+ghost use Rattle.spelling.specs.Strings.{ImpliedString, NumbersFit, TextString};
+ghost use Rattle.store.specs.Store.{held};
 use crate::heads::leads;
 use crate::heads::named;
 use crate::walk::write_expr;
 use limits::Limits;
+use store::Lent;
+use store::Store;
+use store::lending::names_in;
 
 // How a text is brought: how many instances have been entered, and how many parameters they have.
-pub struct Site {
+pub struct ChainDepth {
     pub level: usize,
     pub outer: usize,
 }
@@ -39,12 +43,27 @@ pub struct Spelled {
     pub len: usize,
 }
 
+fn nothing() {}
+
+// The numbers of a slice fit, as a function that calls another is told.
+fn numbers_fit(s: &[u16])
+    ensures { λ _. ⌜ NumbersFit (now (s .entry)) ⌝ }
+{
+    nothing();
+}
+
+// So the names do: an array of a fixed size tells nothing of its numbers.
+pub fn names_fit(store: &[u16; Store::LENGTH])
+    ensures { λ _. ⌜ NumbersFit (held (now (store .entry)) .names) ⌝ }
+{
+    numbers_fit(names_in(store));
+}
+
 // The string of the text at a position, which was brought through `level` instances that have `outer` parameters.
 pub fn text_string(
     s: &[u8],
-    refs: &[u16],
-    names: &[u16],
-    declared: &[u16],
+    refs: &[u16; Lent::REFS],
+    store: &[u16; Store::LENGTH],
     numbers: &[u16],
     shapes: &[u32],
     at: usize,
@@ -53,14 +72,14 @@ pub fn text_string(
     out: &mut [u8],
 ) -> Spelled
     requires { ⌜ (level < 16) × (outer ≤ maxArity) ⌝ }
-    ensures { λ r. ⌜ TextString (now (s .entry)) (now (refs .entry)) (now (names .entry)) (now (declared .entry)) (now (numbers .entry)) (now (shapes .entry)) at level outer (now (out .exit)) (length (now (out .entry))) (r .fits) (r .len) ⌝ }
+    ensures { λ r. ⌜ TextString (now (s .entry)) (now (refs .entry)) (held (now (store .entry)) .names) (held (now (store .entry)) .declared) (now (numbers .entry)) (now (shapes .entry)) at level outer (now (out .exit)) (length (now (out .entry))) (r .fits) (r .len) ⌝ }
 {
-    let site = Site { level, outer };
+    names_fit(store);
+    let site = ChainDepth { level, outer };
     let a = write_expr(
         s,
         refs,
-        names,
-        declared,
+        store,
         numbers,
         shapes,
         out,
@@ -78,8 +97,7 @@ pub fn text_string(
 
 // The string of what a name was resolved to, r, at k parameters after the instances' and p more.
 pub fn implied_string(
-    names: &[u16],
-    declared: &[u16],
+    store: &[u16; Store::LENGTH],
     numbers: &[u16],
     shapes: &[u32],
     r: u16,
@@ -90,20 +108,11 @@ pub fn implied_string(
     out: &mut [u8],
 ) -> Spelled
     requires { ⌜ (level < 16) × (outer ≤ maxArity) × (p ≤ maxArity) × (k ≤ maxArity) ⌝ }
-    ensures { λ x. ⌜ ImpliedString (now (names .entry)) (now (declared .entry)) (now (numbers .entry)) (now (shapes .entry)) r level outer p k (now (out .exit)) (length (now (out .entry))) (x .fits) (x .len) ⌝ }
+    ensures { λ x. ⌜ ImpliedString (held (now (store .entry)) .names) (held (now (store .entry)) .declared) (now (numbers .entry)) (now (shapes .entry)) r level outer p k (now (out .exit)) (length (now (out .entry))) (x .fits) (x .len) ⌝ }
 {
-    let site = Site { level, outer };
-    let rest = named(
-        names,
-        declared,
-        numbers,
-        shapes,
-        out,
-        r as usize,
-        k as u8,
-        site,
-        0,
-    );
+    names_fit(store);
+    let site = ChainDepth { level, outer };
+    let rest = named(store, numbers, shapes, out, r as usize, k as u8, site, 0);
     let a = leads(out, outer + p, k, rest);
     let len = a.to;
     Spelled {

@@ -8,14 +8,17 @@ ghost use Rattle.tokens.specs.Expr.{exprAt, several};
 ghost use Rattle.unfolding.specs.InWorld.{byRefs};
 ghost use Rattle.spelling.specs.Parts.{isWritten, Opened, Closed};
 ghost use Rattle.spelling.specs.Written.{shapeIn, declarationsIn, placeOf, Wrote, AllWrote, ArgumentWrote};
+ghost use Rattle.store.specs.Store.{held};
+use crate::ChainDepth;
 use crate::Ends;
 use crate::Rest;
-use crate::Site;
 use crate::heads::head;
 use crate::heads::is_written;
 use crate::heads::passed;
 use crate::put::put_byte;
 use context::lists::number_at;
+use store::Lent;
+use store::Store;
 
 // Whether the first of k arguments is the last and inside a binder.
 fn is_inside(rest: Rest, k: u8) -> bool
@@ -56,19 +59,18 @@ pub fn close_argument(out: &mut [u8], rest: Rest, k: u8, to: usize) -> usize
 // The string of the expression at a position is written from q on. Where no expression stands there that nests within `nest`, nothing is said.
 pub fn write_expr(
     s: &[u8],
-    refs: &[u16],
-    names: &[u16],
-    declared: &[u16],
+    refs: &[u16; Lent::REFS],
+    store: &[u16; Store::LENGTH],
     numbers: &[u16],
     shapes: &[u32],
     out: &mut [u8],
     at: usize,
     nest: usize,
-    site: Site,
+    site: ChainDepth,
     q: usize,
 ) -> Ends
     requires { ⌜ (site .level < 16) × (site .outer ≤ maxArity) ⌝ }
-    ensures { λ r. ⌜ Wrote (byRefs (now (refs .entry))) (shapeIn (now (shapes .entry))) (declarationsIn (now (names .entry)) (now (declared .entry))) (placeOf (site .level) (site .outer) (now (numbers .entry))) (exprAt nest (now (s .entry)) at) (now (out .entry)) q (now (out .exit)) (r .to) (r .next) ⌝ }
+    ensures { λ r. ⌜ Wrote (byRefs (now (refs .entry))) (shapeIn (now (shapes .entry))) (declarationsIn (held (now (store .entry)) .names) (held (now (store .entry)) .declared)) (placeOf (site .level) (site .outer) (now (numbers .entry))) (exprAt nest (now (s .entry)) at) (now (out .entry)) q (now (out .exit)) (r .to) (r .next) ⌝ }
 {
     if nest == 0 {
         return Ends { next: at, to: q };
@@ -76,14 +78,13 @@ pub fn write_expr(
     let t = tokens::token_at(s, at);
     if tokens::is_token(t) {
         let r = number_at(refs, at);
-        let rest = head(names, declared, numbers, shapes, out, t, r, site, q);
+        let rest = head(store, numbers, shapes, out, t, r, site, q);
         let start = at + tokens::width(t);
         let k = tokens::arguments(t);
         write_args(
             s,
             refs,
-            names,
-            declared,
+            store,
             numbers,
             shapes,
             out,
@@ -101,20 +102,19 @@ pub fn write_expr(
 // What is left to be written of k arguments from a position on.
 fn write_args(
     s: &[u8],
-    refs: &[u16],
-    names: &[u16],
-    declared: &[u16],
+    refs: &[u16; Lent::REFS],
+    store: &[u16; Store::LENGTH],
     numbers: &[u16],
     shapes: &[u32],
     out: &mut [u8],
     at: usize,
     k: u8,
     nest: usize,
-    site: Site,
+    site: ChainDepth,
     rest: Rest,
 ) -> Ends
     requires { ⌜ (site .level < 16) × (site .outer ≤ maxArity) ⌝ }
-    ensures { λ r. ⌜ AllWrote (byRefs (now (refs .entry))) (shapeIn (now (shapes .entry))) (declarationsIn (now (names .entry)) (now (declared .entry))) (placeOf (site .level) (site .outer) (now (numbers .entry))) (several (exprAt nest (now (s .entry))) at k) k (rest .all) (rest .mask) (rest .binds) (now (out .entry)) (rest .to) (now (out .exit)) (r .to) (r .next) ⌝ }
+    ensures { λ r. ⌜ AllWrote (byRefs (now (refs .entry))) (shapeIn (now (shapes .entry))) (declarationsIn (held (now (store .entry)) .names) (held (now (store .entry)) .declared)) (placeOf (site .level) (site .outer) (now (numbers .entry))) (several (exprAt nest (now (s .entry))) at k) k (rest .all) (rest .mask) (rest .binds) (now (out .entry)) (rest .to) (now (out .exit)) (r .to) (r .next) ⌝ }
 {
     if k == 0 {
         return Ends {
@@ -125,8 +125,7 @@ fn write_args(
     let a = write_argument(
         s,
         refs,
-        names,
-        declared,
+        store,
         numbers,
         shapes,
         out,
@@ -140,8 +139,7 @@ fn write_args(
     write_args(
         s,
         refs,
-        names,
-        declared,
+        store,
         numbers,
         shapes,
         out,
@@ -156,35 +154,22 @@ fn write_args(
 // The first of k arguments.
 fn write_argument(
     s: &[u8],
-    refs: &[u16],
-    names: &[u16],
-    declared: &[u16],
+    refs: &[u16; Lent::REFS],
+    store: &[u16; Store::LENGTH],
     numbers: &[u16],
     shapes: &[u32],
     out: &mut [u8],
     at: usize,
     k: u8,
     nest: usize,
-    site: Site,
+    site: ChainDepth,
     rest: Rest,
 ) -> Ends
     requires { ⌜ (site .level < 16) × (site .outer ≤ maxArity) ⌝ }
-    ensures { λ r. ⌜ ArgumentWrote (byRefs (now (refs .entry))) (shapeIn (now (shapes .entry))) (declarationsIn (now (names .entry)) (now (declared .entry))) (placeOf (site .level) (site .outer) (now (numbers .entry))) (exprAt nest (now (s .entry)) at) k (rest .all) (rest .mask) (rest .binds) (now (out .entry)) (rest .to) (now (out .exit)) (r .to) (r .next) ⌝ }
+    ensures { λ r. ⌜ ArgumentWrote (byRefs (now (refs .entry))) (shapeIn (now (shapes .entry))) (declarationsIn (held (now (store .entry)) .names) (held (now (store .entry)) .declared)) (placeOf (site .level) (site .outer) (now (numbers .entry))) (exprAt nest (now (s .entry)) at) k (rest .all) (rest .mask) (rest .binds) (now (out .entry)) (rest .to) (now (out .exit)) (r .to) (r .next) ⌝ }
 {
     let q = open_argument(out, rest, k);
-    let a = write_expr(
-        s,
-        refs,
-        names,
-        declared,
-        numbers,
-        shapes,
-        out,
-        at,
-        nest,
-        site,
-        q,
-    );
+    let a = write_expr(s, refs, store, numbers, shapes, out, at, nest, site, q);
     let to = close_argument(out, rest, k, a.to);
     Ends { next: a.next, to }
 }

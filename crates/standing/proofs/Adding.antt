@@ -24,7 +24,7 @@ use Rattle.texts.specs.Text.{Declarations}
 use Rattle.text_levels.proofs.OwnWorld.{Shows}
 use Rattle.resolve.proofs.Numbers.{declarationsOf, declares-other}
 use Rattle.context.specs.Holds.{Holds}
-use Rattle.context.specs.Store.{Store}
+use Rattle.store.specs.Store.{Store}
 use Rattle.context.specs.declared.Counts.{Counts}
 use Rattle.worlds.specs.Rows.{Row, newRows, noRow, rowsAfter}
 use Rattle.judge_plain.specs.Judges.{phaseOf}
@@ -32,35 +32,36 @@ use Rattle.judge_plain.specs.declared.Phase.{Phase}
 use Rattle.standing.specs.Chained.{Chained, Own, Through}
 use Rattle.standing.specs.Grows.{Grows, RowsKept}
 use Rattle.standing.specs.Standing.{AtField, DeclaredCodes, Standing, itselves}
-use Rattle.standing.proofs.Advancing.{bytes-more, declarations-same, few-declared, grows, none-counted, numbers-kept, stands-after}
+use Rattle.standing.proofs.Advancing.{bytes-more, declarations-same, few-declared, grows, none-counted, numbers-kept, stands-after, still-codes}
 use Rattle.standing.proofs.Forms.{codes-kept, definition-form}
 use Rattle.standing.proofs.Links.{chained-kept, rows-counted}
 use Rattle.standing.proofs.Texts.{SameBelow}
 
-module _ (file : List ℕ) (fs : List Field) (s : State) (rs : List Row) (v : Store) (c : Counts) (p : Phase) (refs words declared : List ℕ)
-    (stands : Standing file fs s rs v c p refs words declared) (x : Parts) (f : Field) (at : AtField file s x f) (lawful : judge s f ≡ none) (v′ : Store) (c′ : Counts)
+module _ (file : List ℕ) (fs : List Field) (s : State) (rs : List Row) (v : Store) (c : Counts) (p : Phase) (refs words : List ℕ)
+    (stands : Standing file fs s rs v c p refs words) (x : Parts) (f : Field) (at : AtField file s x f) (lawful : judge s f ≡ none) (v′ : Store) (c′ : Counts)
     (p′ : Phase) (refs′ : List ℕ) (holds′ : Holds v′ c′ (add s f)) (phase′ : phaseOf p′ ≡ add s f .phase) where
   -- A field that defines: an own definition, or those that an instance brings. The forms before it stay; the new ones are right, and so are their chains.
-  pub stands-defined : RowsKept v c v′ → (words′ : List ℕ) (ds : List Added) → declaration f ≡ none → add s f .definitions ≡ s .definitions ++ ds → SameBelow (s .bytes) refs refs′
+  pub stands-defined : RowsKept v c v′ → v′ .declared ≡ v .declared → (words′ : List ℕ) (ds : List Added) → declaration f ≡ none → add s f .definitions ≡ s .definitions ++ ds → SameBelow (s .bytes) refs refs′
       → length refs′ ≡ fileBytes → length words′ ≡ tableWords → ((g : ℕ) → g < c .definitions → formAt words′ g ≡ formAt words g)
       → ((d : ℕ) → d < length (declarationsOf fs) → formAt words′ (maxDefinitions + d) ≡ formAt words (maxDefinitions + d))
       → ((g : ℕ) (us : List ℕ) → c .definitions ≤ g → g < c′ .definitions → length us ≡ paramsOf (add s f) g → All IsLevel us → levelAt (formAt words′ g) us ≡ cardLevel (add s f) g us)
       → ((D : ℕ) → c .definitions ≤ D → D < c′ .definitions
       → Own v′ file refs′ (declarationsOf fs) (add s f) (add s f .bytes) (getD (rowsAfter s rs f) D noRow) D
       ⊎ Through v′ c′ file refs′ (declarationsOf fs) (rowsAfter s rs f) (add s f .bytes) (getD (rowsAfter s rs f) D noRow) D)
-      → Standing file (fs ++ (f ∷ [])) (add s f) (rowsAfter s rs f) v′ c′ p′ refs′ words′ declared
-  stands-defined rows words′ ds none-declared added same size words-size old-forms old-declared new-forms new-chains =
-      stands-after file fs s rs v c p refs words declared stands x f at lawful v′ c′ p′ refs′ holds′ phase′ words′ declared
-      (declares-other (v .facts) (v′ .facts) c c′ fs f (stands .declares) (numbers-kept file fs s rs v c p refs words declared stands v′ rows) none-declared
+      → Standing file (fs ++ (f ∷ [])) (add s f) (rowsAfter s rs f) v′ c′ p′ refs′ words′
+  stands-defined rows codes-same words′ ds none-declared added same size words-size old-forms old-declared new-forms new-chains =
+      stands-after file fs s rs v c p refs words stands x f at lawful v′ c′ p′ refs′ holds′ phase′ words′
+      (declares-other (v .facts) (v′ .facts) c c′ fs f (stands .declares) (numbers-kept file fs s rs v c p refs words stands v′ rows) none-declared
       (holds′ .declarations ∙ none-counted s f none-declared ∙ sym (stands .holds .declarations)))
-      (subst (λ (d : Declarations). DeclaredCodes v′ d declared) (sym decls) (codes-kept v c v′ (declarationsOf fs) declared rows (stands .early) (stands .codes)))
-      (λ d l. let k = stands .early d (subst (λ (e : Declarations). d < length e) decls l) in omega (arith, more .fields))
+      (subst (λ (d : Declarations). DeclaredCodes v′ d (v′ .declared)) (sym decls)
+      (still-codes file fs s rs v c p refs words stands x f at lawful v′ c′ p′ refs′ holds′ phase′ rows codes-same))
+      (λ d l. rw codes-same (let k = stands .early d (subst (λ (e : Declarations). d < length e) decls l) in omega (arith, more .fields)))
       (subst (λ (d : Declarations). Shows (sceneOf itselves words′) d (add s f)) (sym decls) forms)
       (subst (λ (d : Declarations). Chained v′ c′ file refs′ d (add s f) (rowsAfter s rs f) (add s f .bytes)) (sym decls) chains)
       size words-size
     where
       more : Grows v c v′ c′
-      more = grows file fs s rs v c p refs words declared stands x f at lawful v′ c′ p′ refs′ holds′ phase′ rows
+      more = grows file fs s rs v c p refs words stands x f at lawful v′ c′ p′ refs′ holds′ phase′ rows
 
       decls : declarationsOf (fs ++ (f ∷ [])) ≡ declarationsOf fs
       decls = declarations-same fs f none-declared ∙ append-nil (declarationsOf fs)
@@ -88,7 +89,7 @@ module _ (file : List ℕ) (fs : List Field) (s : State) (rs : List Row) (v : St
           subst (λ (d : Declarations). Own v′ file refs′ d (add s f) (add s f .bytes) (getD (rowsAfter s rs f) D noRow) D
           ⊎ Through v′ c′ file refs′ d (rowsAfter s rs f) (add s f .bytes) (getD (rowsAfter s rs f) D noRow) D) (append-nil (declarationsOf fs))
           (chained-kept v c s v′ c′ (stands .holds) more file refs refs′ (declarationsOf fs) [] (s .bytes) (add s f .bytes)
-          (few-declared file fs s rs v c p refs words declared stands) same (omega (arith, bytes-more s f)) (add s f) ds rs (newRows s rs f) added
+          (few-declared file fs s rs v c p refs words stands) same (omega (arith, bytes-more s f)) (add s f) ds rs (newRows s rs f) added
           (rows-counted v c s rs (stands .holds) (stands .worlds)) (stands .chained) D h)
       chain D (no h) l = new-chains D (omega arith) l
 

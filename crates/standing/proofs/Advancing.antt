@@ -1,7 +1,7 @@
 -- What stands before a field gives what its judge asks; and what stands after it, put together from what the judge leaves.
 use mathlib.Core.List.{List, [], _++_, _∷_, append-nil}
 use mathlib.Core.Option.{Option, none, some}
-use mathlib.Core.Path.{_∙_, _≡_, ap, refl, subst, sym}
+use mathlib.Core.Path.{_∙_, _≡_, ap, refl, subst, subst⁻¹, sym}
 use Prim.Native.Nat.{ℕ, _+_, _*_, _≤_, _<_}
 use native.Mathlib.Omega.{arith}
 use lib.ListN.{getD, length, length-append}
@@ -26,7 +26,8 @@ use Rattle.text_levels.proofs.OwnWorld.{Shows}
 use Rattle.levels.specs.Tables.{sceneOf, tableWords}
 use Rattle.resolve.proofs.Numbers.{Declares, declarationsOf, declares-other, few-declarations}
 use Rattle.context.specs.Holds.{Holds}
-use Rattle.context.specs.Store.{Store, fieldCode, firstAt}
+use Rattle.context.specs.Entries.{fieldCode}
+use Rattle.store.specs.Store.{Store, firstAt}
 use Rattle.context.specs.declared.Counts.{Counts}
 use Rattle.context.proofs.Room.{context-space-for, order-space-for}
 use Rattle.worlds.specs.Rows.{Row, newRows, rowsAfter}
@@ -81,8 +82,8 @@ none-counted s end-module e = omega arith
 none-counted s (assume b) e = omega arith
 none-counted s (theorem b) e = omega arith
 
-module _ (file : List ℕ) (fs : List Field) (s : State) (rs : List Row) (v : Store) (c : Counts) (p : Phase) (refs words declared : List ℕ)
-    (stands : Standing file fs s rs v c p refs words declared) where
+module _ (file : List ℕ) (fs : List Field) (s : State) (rs : List Row) (v : Store) (c : Counts) (p : Phase) (refs words : List ℕ)
+    (stands : Standing file fs s rs v c p refs words) where
   pub fields-counted : c .fields ≡ length fs
   fields-counted = stands .holds .fields ∙ stands .origins .counted
 
@@ -97,14 +98,9 @@ module _ (file : List ℕ) (fs : List Field) (s : State) (rs : List Row) (v : St
     pub room : c .fields < maxFields
     room = omega (arith, fields-counted, stands .apart, stands .within .modules, at .ends, at .inside, at .short, field-some f)
 
-    -- what the code asks of the arrays
-    pub roomy : Roomy (v .names) (v .facts) (v .contexts) (v .orders) (v .heads) c
+    -- what the code asks
+    pub roomy : Roomy v c
     roomy = record {
-      names-size = stands .holds .sized .names;
-      facts-size = stands .holds .sized .facts;
-      contexts-size = stands .holds .sized .contexts;
-      orders-size = stands .holds .sized .orders;
-      heads-size = stands .holds .sized .heads;
       modules = stands .holds .sized .modules;
       fields = room;
       declarations = omega (arith, stands .holds .declarations, stands .within .declarations);
@@ -122,12 +118,12 @@ module _ (file : List ℕ) (fs : List Field) (s : State) (rs : List Row) (v : St
     -- All stands after the field: what follows from the rules alone is put to what the judge leaves.
     module _ (lawful : judge s f ≡ none) (v′ : Store) (c′ : Counts) (p′ : Phase) (refs′ : List ℕ) (holds′ : Holds v′ c′ (add s f))
         (phase′ : phaseOf p′ ≡ add s f .phase) where
-      pub stands-after : (words′ declared′ : List ℕ) → Declares (v′ .facts) c′ (fs ++ (f ∷ [])) → DeclaredCodes v′ (declarationsOf (fs ++ (f ∷ []))) declared′
-          → ((d : ℕ) → d < length (declarationsOf (fs ++ (f ∷ []))) → getD declared′ d 0 < maxDefinitions + c′ .fields)
+      pub stands-after : (words′ : List ℕ) → Declares (v′ .facts) c′ (fs ++ (f ∷ [])) → DeclaredCodes v′ (declarationsOf (fs ++ (f ∷ []))) (v′ .declared)
+          → ((d : ℕ) → d < length (declarationsOf (fs ++ (f ∷ []))) → getD (v′ .declared) d 0 < maxDefinitions + c′ .fields)
           → Shows (sceneOf itselves words′) (declarationsOf (fs ++ (f ∷ []))) (add s f)
           → Chained v′ c′ file refs′ (declarationsOf (fs ++ (f ∷ []))) (add s f) (rowsAfter s rs f) (add s f .bytes) → length refs′ ≡ fileBytes → length words′ ≡ tableWords
-          → Standing file (fs ++ (f ∷ [])) (add s f) (rowsAfter s rs f) v′ c′ p′ refs′ words′ declared′
-      stands-after words′ declared′ declares codes early forms chained refs-size words-size = record {
+          → Standing file (fs ++ (f ∷ [])) (add s f) (rowsAfter s rs f) v′ c′ p′ refs′ words′
+      stands-after words′ declares codes early forms chained refs-size words-size = record {
         holds = holds′;
         phase = phase′;
         declares = declares;
@@ -150,25 +146,29 @@ module _ (file : List ℕ) (fs : List Field) (s : State) (rs : List Row) (v : St
         depths = depths-add s rs (stands .worlds) (stands .depths) f;
       }
 
+      -- the codes of the declarations stay
+      pub still-codes : RowsKept v c v′ → v′ .declared ≡ v .declared → DeclaredCodes v′ (declarationsOf fs) (v′ .declared)
+      still-codes rows same = subst⁻¹ (DeclaredCodes v′ (declarationsOf fs)) same (codes-kept v c v′ (declarationsOf fs) (v .declared) rows (stands .early) (stands .codes))
+
       module _ (rows : RowsKept v c v′) where
         pub grows : Grows v c v′ c′
         grows = grows-add v c s v′ c′ (stands .holds) rows (stands .fresh) f lawful holds′
 
         -- A field that declares and defines nothing: only the table of names may have grown.
-        pub stands-quiet : declaration f ≡ none → newRows s rs f ≡ [] → add s f .definitions ≡ s .definitions ++ [] → SameBelow (s .bytes) refs refs′ → length refs′ ≡ fileBytes
-            → Standing file (fs ++ (f ∷ [])) (add s f) (rowsAfter s rs f) v′ c′ p′ refs′ words declared
-        stands-quiet none-declared no-rows none-defined same size =
+        pub stands-quiet : v′ .declared ≡ v .declared → declaration f ≡ none → newRows s rs f ≡ [] → add s f .definitions ≡ s .definitions ++ [] → SameBelow (s .bytes) refs refs′ → length refs′ ≡ fileBytes
+            → Standing file (fs ++ (f ∷ [])) (add s f) (rowsAfter s rs f) v′ c′ p′ refs′ words
+        stands-quiet codes-same none-declared no-rows none-defined same size =
             let more : declarationsOf (fs ++ (f ∷ [])) ≡ declarationsOf fs ++ [] = declarations-same fs f none-declared in
             let decls : declarationsOf (fs ++ (f ∷ [])) ≡ declarationsOf fs = more ∙ append-nil (declarationsOf fs) in
             let count : c′ .definitions ≡ c .definitions =
             holds′ .definitions ∙ ap (λ (l : List Added). length l) (none-defined ∙ append-nil (s .definitions)) ∙ sym (stands .holds .definitions) in
             let kept = all-chained v c s v′ c′ (stands .holds) grows file refs refs′ (declarationsOf fs) [] (s .bytes) (add s f .bytes) few-declared same
             (omega (arith, bytes-more s f)) (add s f) [] rs [] none-defined (rows-counted v c s rs (stands .holds) (stands .worlds)) count (stands .chained) in
-            stands-after words declared
+            stands-after words
             (declares-other (v .facts) (v′ .facts) c c′ fs f (stands .declares) (numbers-kept v′ rows) none-declared
             (holds′ .declarations ∙ none-counted s f none-declared ∙ sym (stands .holds .declarations)))
-            (subst (λ (d : Declarations). DeclaredCodes v′ d declared) (sym decls) (codes-kept v c v′ (declarationsOf fs) declared rows (stands .early) (stands .codes)))
-            (λ d l. let k = stands .early d (subst (λ (e : Declarations). d < length e) decls l) in omega (arith, grows .fields))
+            (subst (λ (d : Declarations). DeclaredCodes v′ d (v′ .declared)) (sym decls) (still-codes rows codes-same))
+            (λ d l. rw codes-same (let k = stands .early d (subst (λ (e : Declarations). d < length e) decls l) in omega (arith, grows .fields)))
             (subst (λ (d : Declarations). Shows (sceneOf itselves words) d (add s f)) (sym decls) (shows-same s (add s f) words (declarationsOf fs) none-defined (stands .forms)))
             (subst (λ (d : Declarations). Chained v′ c′ file refs′ d (add s f) (rowsAfter s rs f) (add s f .bytes)) (sym more)
             (subst (λ (us : List Row). Chained v′ c′ file refs′ (declarationsOf fs ++ []) (add s f) (rs ++ us) (add s f .bytes)) (sym no-rows) kept))

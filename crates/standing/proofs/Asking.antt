@@ -4,13 +4,13 @@ use mathlib.Core.Path.{_≡_}
 use Prim.Native.Nat.{ℕ, _+_, _*_, _≤_, _<_}
 use native.Mathlib.Omega.{arith}
 use lib.ListN.{length}
-use Rattle.limits.specs.Limits.{fileBytes, maxDeclarations, maxModules}
+use Rattle.limits.specs.Limits.{fileBytes, maxModules}
 use Rattle.rules.specs.Field.{Substitution}
 use Rattle.agree.specs.Parts.{SubstitutionsAt}
 use Rattle.fields.specs.Substitution.{nextSubstitution}
 use Rattle.fields.specs.declared.Parts.{Parts}
 use Rattle.fields.specs.declared.Parts.the-variants.{Extends, Definition, Instance, EndModule, Cut, EndOfFile}
-use Rattle.context.specs.Store.{store}
+use Rattle.store.specs.Store.{Store}
 use Rattle.context.specs.declared.Counts.{Counts}
 use Rattle.levels.specs.Tables.{tableWords}
 use Rattle.judge_plain.proofs.Lifted.{end-room}
@@ -26,19 +26,15 @@ pub substitutions-rise : (file : List ℕ) (at end : ℕ) (ss : List Substitutio
 substitutions-rise file at end [] e = omega arith
 substitutions-rise file at end (x ∷ xs) (a, b, l, r) = omega (arith, substitutions-rise file (nextSubstitution file at) end xs r)
 
-module _ (file names facts contexts orders heads : List ℕ) (c : Counts) (p : Phase) (refs words declared : List ℕ) where
+module _ (file : List ℕ) (v : Store) (c : Counts) (p : Phase) (refs words : List ℕ) where
   abbrev Now : Parts → Type 0
-  Now x = Underway file (store names facts contexts orders heads) c p refs words declared x
+  Now x = Underway file v c p refs words x
 
-  -- the arrays
-  pub underway-roomy : (x : Parts) → Now x → Roomy names facts contexts orders heads c
-  underway-roomy x (underway fs s rs f stands at) = roomy file fs s rs (store names facts contexts orders heads) c p refs words declared stands x f at
+  pub underway-roomy : (x : Parts) → Now x → Roomy v c
+  underway-roomy x (underway fs s rs f stands at) = roomy file fs s rs v c p refs words stands x f at
 
   pub underway-words : (x : Parts) → Now x → length words ≡ tableWords
   underway-words x (underway fs s rs f stands at) = stands .words-size
-
-  pub underway-declared : (x : Parts) → Now x → length declared ≡ maxDeclarations
-  underway-declared x (underway fs s rs f stands at) = stands .codes .size
 
   -- where the texts stand
   pub definition-inside : (n k at l : ℕ) → Now (Definition n k at l) → at + l ≤ fileBytes
@@ -50,13 +46,13 @@ module _ (file names facts contexts orders heads : List ℕ) (c : Counts) (p : P
 
   -- end_field and extends_field
   pub end-asks : Now EndModule → endCause p ≡ 0 → c .modules < maxModules
-  end-asks (underway fs s rs f stands at) z = end-room (store names facts contexts orders heads) c s (stands .holds) p (stands .phase) (stands .within) z
+  end-asks (underway fs s rs f stands at) z = end-room v c s (stands .holds) p (stands .phase) (stands .within) z
 
   pub extends-inside : (at k : ℕ) → Now (Extends at k) → (1 ≤ k) × (at + 2 * k ≤ fileBytes)
   extends-inside at k (underway fs s rs f stands there) = (there .tells .0, omega (arith, there .filled, there .inside, there .short))
 
-  pub extends-ready : (x : Parts) → Now x → Ready names contexts orders heads p c
-  extends-ready x (underway fs s rs f stands at) = ready names facts contexts orders heads p c s (stands .holds) (stands .phase) (stands .good) (stands .fresh)
+  pub extends-ready : (x : Parts) → Now x → Ready v p c
+  extends-ready x (underway fs s rs f stands at) = ready v p c s (stands .holds) (stands .phase) (stands .good) (stands .fresh)
 
   -- no field
   pub no-cut : Now Cut → ⊥

@@ -16,7 +16,7 @@ use Rattle.levels.specs.Tables.{sceneOf}
 use Rattle.levels.proofs.Numbered.{numbers-at}
 use Rattle.texts.specs.Text.{Declarations, noDeclaration}
 use Rattle.text_levels.proofs.OwnWorld.{Shows}
-use Rattle.context.specs.Store.{Store}
+use Rattle.store.specs.Store.{Store}
 use Rattle.context.specs.declared.Counts.{Counts}
 use Rattle.standing.specs.Grows.{RowsKept}
 use Rattle.standing.specs.Standing.{DeclaredCodes, itselves}
@@ -55,7 +55,6 @@ shows-same s s′ words decls added shows = record {
 pub codes-kept : (v : Store) (c : Counts) (v′ : Store) (decls : Declarations) (declared : List ℕ) → RowsKept v c v′
     → ((d : ℕ) → d < length decls → getD declared d 0 < maxDefinitions + c .fields) → DeclaredCodes v decls declared → DeclaredCodes v′ decls declared
 codes-kept v c v′ decls declared rows early x = record {
-  size = x .size;
   named = λ d l. rows .names (getD declared d 0) (known-field c (getD declared d 0) (x .code d l .0) (early d l)) ∙ x .named d l;
   kind = λ d l. kind-kept v c v′ rows (getD declared d 0) (known-field c (getD declared d 0) (x .code d l .0) (early d l)) ∙ x .kind d l;
   code = x .code;

@@ -21,9 +21,11 @@ use Rattle.rules.specs.Judge.{extendedContext, judge, outOfOrder}
 use Rattle.rules.specs.State.{Added, Context, Entry, Module, Origin, Phase, State, begun, declares, defines, definitionOrigin, fieldOrigin, here, inside, instances, noModule, originOf, outside}
 use Rattle.laws.proofs.Causes.{clear-field}
 use Rattle.context.specs.Holds.{Holds, Known, moduleNo}
-use Rattle.context.specs.Store.{Store, codesOf, countAt, entryAt, fieldCode, firstAt, kindAt, stored, variableKind}
+use Rattle.context.specs.Entries.{codesOf, entryAt, fieldCode, variableKind}
+use Rattle.store.specs.Store.{Store, countAt, firstAt, kindAt}
+use Rattle.store.specs.Updates.{stored}
 use Rattle.context.specs.declared.Counts.{Counts}
-use Rattle.context.specs.declared.Row.{Row}
+use Rattle.store.specs.declared.Facts.{Facts}
 use Rattle.context.proofs.Change.{fact-other}
 use Rattle.judge_plain.proofs.Premises.{EmptyIn, Fresh}
 use Rattle.standing.specs.Grows.{Grows, RowsKept}
@@ -38,7 +40,7 @@ rows-same v c v′ a b = record {
 }
 
 -- a code that was not given yet was stored,
-pub rows-stored : (v : Store) (c : Counts) (v′ : Store) (o name : ℕ) (r : Row) → (Known (c .fields) (c .definitions) o → ⊥) → v′ .names ≡ set (v .names) o name
+pub rows-stored : (v : Store) (c : Counts) (v′ : Store) (o name : ℕ) (r : Facts) → (Known (c .fields) (c .definitions) o → ⊥) → v′ .names ≡ set (v .names) o name
     → v′ .facts ≡ stored (v .facts) o r → RowsKept v c v′
 rows-stored v c v′ o name r new a b = record {
   names = λ p k. ap (λ (l : List ℕ). getD l p 0) a ∙ getD-set-other (v .names) o p name 0 (λ (e : p ≡ o). new (subst (Known (c .fields) (c .definitions)) e k));

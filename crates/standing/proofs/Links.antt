@@ -11,7 +11,7 @@ use Rattle.theory.specs.Term.{Kind, Term}
 use Rattle.rules.specs.State.{Added, State, definitionAt, noDefinition}
 use Rattle.texts.specs.Text.{Declarations, refHead}
 use Rattle.context.specs.Holds.{Holds}
-use Rattle.context.specs.Store.{Store, firstAt}
+use Rattle.store.specs.Store.{Store, firstAt}
 use Rattle.context.specs.declared.Counts.{Counts}
 use Rattle.worlds.specs.Rows.{Row, bodyOf, broughtRow, noRow}
 use Rattle.worlds.specs.World.{Link}

@@ -16,7 +16,8 @@ use Rattle.theory.proofs.Lists.{find-has, map-all, none-some}
 use Rattle.rules.specs.State.{State}
 use Rattle.context.specs.Holds.{Holds, Known}
 use Rattle.context.specs.Lookup.{asCode, codeNamed, declaredNamed, declaresName, operatorAt, operatorIn}
-use Rattle.context.specs.Store.{Store, codesOf, countAt, firstAt, kindAt, linkAt, sourceAt, variableKind, viaAt}
+use Rattle.context.specs.Entries.{codesOf, variableKind}
+use Rattle.store.specs.Store.{Store, countAt, firstAt, kindAt, linkAt, sourceAt, viaAt}
 use Rattle.context.specs.declared.Counts.{Counts}
 use Rattle.context.specs.declared.Operator.{Operator}
 use Rattle.context.specs.declared.Operator.the-variants.{Constant, Variable, Defined, Unknown}

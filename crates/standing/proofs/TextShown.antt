@@ -38,7 +38,8 @@ use Rattle.texts.specs.Text.{Declarations, noDeclaration, refHead}
 use Rattle.texts.proofs.Noting.{AgreeFrom, noted-length, noteds-before}
 use Rattle.texts.proofs.Spans.{Span, SpanOf, Spans, span-found, span-rise, spans-rise}
 use Rattle.context.specs.Holds.{Holds, moduleNo}
-use Rattle.context.specs.Store.{Store, codesOf}
+use Rattle.context.specs.Entries.{codesOf}
+use Rattle.store.specs.Store.{Store}
 use Rattle.context.specs.declared.Counts.{Counts}
 use Rattle.resolve.specs.Look.{lookIn}
 use Rattle.resolve.specs.Meaning.{Means}

@@ -6,7 +6,8 @@ use Prim.Native.Nat.{ℕ, suc, _<_}
 use lib.ListN.{getD}
 use Rattle.rules.specs.State.{State, definitionAt}
 use Rattle.texts.specs.Text.{Declarations}
-use Rattle.context.specs.Store.{Store, fieldCode, firstAt, linkAt, sourceAt}
+use Rattle.context.specs.Entries.{fieldCode}
+use Rattle.store.specs.Store.{Store, firstAt, linkAt, sourceAt}
 use Rattle.context.specs.declared.Counts.{Counts}
 use Rattle.worlds.specs.Rows.{Row, bodyOf, broughtRow, noRow}
 use Rattle.worlds.specs.World.{In, Link, brings}

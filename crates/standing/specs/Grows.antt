@@ -5,7 +5,8 @@ use Prim.Native.Nat.{ℕ, _+_, _*_, _≤_, _<_}
 use lib.ListN.{getD}
 use Rattle.limits.specs.Sizes.{columnCount}
 use Rattle.context.specs.Holds.{Known}
-use Rattle.context.specs.Store.{Store, codesOf, orderOf}
+use Rattle.context.specs.Entries.{codesOf, orderOf}
+use Rattle.store.specs.Store.{Store}
 use Rattle.context.specs.declared.Counts.{Counts}
 
 -- the codes given so far keep their names and facts

@@ -12,7 +12,8 @@ use Rattle.tokens.specs.Expr.{Expr, exprAt, found}
 use Rattle.tokens.specs.Limit.{countsKept}
 use Rattle.texts.specs.Text.{Declarations, refHead, shown}
 use Rattle.context.specs.Lookup.{declaredNamed}
-use Rattle.context.specs.Store.{Store, codesOf, firstAt, instanceKind, kindAt, linkAt, orderOf, sourceAt, viaAt}
+use Rattle.context.specs.Entries.{codesOf, instanceKind, orderOf}
+use Rattle.store.specs.Store.{Store, firstAt, kindAt, linkAt, sourceAt, viaAt}
 use Rattle.context.specs.declared.Counts.{Counts}
 use Rattle.text_levels.proofs.OwnWorld.{RefsBelow}
 use Rattle.worlds.specs.World.{Link}

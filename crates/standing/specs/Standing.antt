@@ -4,7 +4,7 @@ use mathlib.Core.Path.{_≡_}
 use Prim.Native.Nat.{ℕ, _+_, _*_, _≤_, _<_}
 use lib.ListN.{getD, length}
 use Rattle.limits.specs.Limits.{fileBytes, maxArity, maxDeclarations, maxDefinitions, maxModules}
-use Rattle.limits.specs.Sizes.{codeCount, contextLength, contextsLength, factsLength, headsLength, maxFields, ordersLength, shortestFieldBytes, shortestPayloadBytes}
+use Rattle.limits.specs.Sizes.{codeCount, contextLength, maxFields, shortestFieldBytes, shortestPayloadBytes}
 use Rattle.theory.specs.Lists.{numbersFrom}
 use Rattle.theory.specs.Term.{kindArity}
 use Rattle.rules.specs.Add.{add}
@@ -26,7 +26,7 @@ use Rattle.worlds.proofs.Depth.{Depths}
 use Rattle.worlds.proofs.Invariant.{Worlds}
 use Rattle.texts.specs.Text.{Declarations, noDeclaration}
 use Rattle.context.specs.Holds.{Holds}
-use Rattle.context.specs.Store.{Store, contextSlot, kindAt, orderSlot}
+use Rattle.store.specs.Store.{Store, contextSlot, kindAt, orderSlot}
 use Rattle.context.specs.declared.Counts.{Counts}
 use Rattle.levels.specs.Tables.{sceneOf, tableWords}
 use Rattle.text_levels.proofs.OwnWorld.{Shows}
@@ -44,7 +44,6 @@ itselves = numbersFrom 0 maxDefinitions
 
 -- `declared` holds the code of each declaration, by its number
 pub record DeclaredCodes (v : Store) (decls : Declarations) (declared : List ℕ) : Type 0 where
-  pub size : length declared ≡ maxDeclarations
   pub named : (d : ℕ) → d < length decls → getD (v .names) (getD declared d 0) 0 ≡ getD decls d noDeclaration .1
   pub kind : (d : ℕ) → d < length decls → kindAt (v .facts) (getD declared d 0) ≡ kindNumber (getD decls d noDeclaration .0)
   pub code : (d : ℕ) → d < length decls → (maxDefinitions ≤ getD declared d 0) × (getD declared d 0 < codeCount)
@@ -52,12 +51,12 @@ pub record DeclaredCodes (v : Store) (decls : Declarations) (declared : List ℕ
 
 -- The fields fs were read, each lawful; they lead to the state s, whose definitions have the worlds rs. The arrays v and the counts c show s;
 -- `refs` notes what the names of the texts read mean; `words` holds the form of each definition and declaration.
-pub record Standing (file : List ℕ) (fs : List Field) (s : State) (rs : List Row) (v : Store) (c : Counts) (p : Phase) (refs words declared : List ℕ) : Type 0 where
+pub record Standing (file : List ℕ) (fs : List Field) (s : State) (rs : List Row) (v : Store) (c : Counts) (p : Phase) (refs words : List ℕ) : Type 0 where
   pub holds : Holds v c s
   pub phase : phaseOf p ≡ s .phase
   pub declares : Declares (v .facts) c fs
-  pub codes : DeclaredCodes v (declarationsOf fs) declared
-  pub early : (d : ℕ) → d < length (declarationsOf fs) → getD declared d 0 < maxDefinitions + c .fields
+  pub codes : DeclaredCodes v (declarationsOf fs) (v .declared)
+  pub early : (d : ℕ) → d < length (declarationsOf fs) → getD (v .declared) d 0 < maxDefinitions + c .fields
   pub forms : Shows (sceneOf itselves words) (declarationsOf fs) s
   pub chained : Chained v c file refs (declarationsOf fs) s rs (s .bytes)
   pub refs-size : length refs ≡ fileBytes
@@ -76,23 +75,18 @@ pub record Standing (file : List ℕ) (fs : List Field) (s : State) (rs : List R
   pub depths : Depths s rs
 
 -- A field judged: the answer is the rules' first cause, and if there is none, all stands with the field read.
-pub record Advances (file : List ℕ) (fs : List Field) (s : State) (rs : List Row) (f : Field) (r : Judged) (v′ : Store) (refs′ words′ declared′ : List ℕ) : Type 0 where
+pub record Advances (file : List ℕ) (fs : List Field) (s : State) (rs : List Row) (f : Field) (r : Judged) (v′ : Store) (refs′ words′ : List ℕ) : Type 0 where
   pub cause : r .cause ≡ causeNumber (judge s f)
-  pub stands : r .cause ≡ 0 → Standing file (fs ++ (f ∷ [])) (add s f) (rowsAfter s rs f) v′ (r .counts) (r .phase) refs′ words′ declared′
+  pub stands : r .cause ≡ 0 → Standing file (fs ++ (f ∷ [])) (add s f) (rowsAfter s rs f) v′ (r .counts) (r .phase) refs′ words′
 
--- What the code asks of the arrays before a field: their sizes, and room for what the field may add.
-pub record Roomy (names facts contexts orders heads : List ℕ) (c : Counts) : Type 0 where
-  pub names-size : length names ≡ codeCount
-  pub facts-size : length facts ≡ factsLength
-  pub contexts-size : length contexts ≡ contextsLength
-  pub orders-size : length orders ≡ ordersLength
-  pub heads-size : length heads ≡ headsLength
+-- What the code asks before a field: room for what the field may add.
+pub record Roomy (v : Store) (c : Counts) : Type 0 where
   pub modules : c .modules ≤ maxModules
   pub fields : c .fields < maxFields
   pub declarations : c .declarations ≤ maxDeclarations
   pub definitions : c .definitions ≤ maxDefinitions
-  pub context-room : (n : ℕ) → c .definitions + n ≤ maxDefinitions → getD heads (contextSlot (c .modules)) 0 + n < contextLength
-  pub order-room : (n : ℕ) → c .definitions + n ≤ maxDefinitions → getD heads (orderSlot (c .modules)) 0 + n ≤ maxDefinitions
+  pub context-room : (n : ℕ) → c .definitions + n ≤ maxDefinitions → getD (v .heads) (contextSlot (c .modules)) 0 + n < contextLength
+  pub order-room : (n : ℕ) → c .definitions + n ≤ maxDefinitions → getD (v .heads) (orderSlot (c .modules)) 0 + n ≤ maxDefinitions
 
 -- the names of an EXTENDS field fill it to its end
 abbrev pub Filled : ℕ → Parts → Type 0
@@ -121,11 +115,11 @@ pub record AtField (file : List ℕ) (s : State) (x : Parts) (f : Field) : Type 
 
 -- What each judging function promises: whatever stands before, the field is judged as the rules judge it, and if it is lawful all stands
 -- after it.
-pub record Judging (file : List ℕ) (x : Parts) (v v′ : Store) (c : Counts) (p : Phase) (r : Judged) (refs refs′ words words′ declared declared′ : List ℕ) : Type 0 where
-  pub advances : (fs : List Field) (s : State) (rs : List Row) (f : Field) → Standing file fs s rs v c p refs words declared → AtField file s x f
-      → Advances file fs s rs f r v′ refs′ words′ declared′
+pub record Judging (file : List ℕ) (x : Parts) (v v′ : Store) (c : Counts) (p : Phase) (r : Judged) (refs refs′ words words′ : List ℕ) : Type 0 where
+  pub advances : (fs : List Field) (s : State) (rs : List Row) (f : Field) → Standing file fs s rs v c p refs words → AtField file s x f
+      → Advances file fs s rs f r v′ refs′ words′
 
 -- and what it may ask: that something stands, and a field next
-pub data Underway (file : List ℕ) (v : Store) (c : Counts) (p : Phase) (refs words declared : List ℕ) (x : Parts) : Type 0 where
-  underway : (fs : List Field) (s : State) (rs : List Row) (f : Field) → Standing file fs s rs v c p refs words declared → AtField file s x f
-      → Underway file v c p refs words declared x
+pub data Underway (file : List ℕ) (v : Store) (c : Counts) (p : Phase) (refs words : List ℕ) (x : Parts) : Type 0 where
+  underway : (fs : List Field) (s : State) (rs : List Row) (f : Field) → Standing file fs s rs v c p refs words → AtField file s x f
+      → Underway file v c p refs words x

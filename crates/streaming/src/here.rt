@@ -82,7 +82,7 @@ fn open_here(env: &mut [u16], b: usize, d: usize) -> Depth
     ensures { λ r. ⌜ Opens begin b d (now (env .entry)) (now (env .exit)) r ⌝ }
 {
     if d < env.len() {
-        if b < 65536 {
+        if b < Now::BRACKETS {
             env[d] = b as u16;
             return Depth {
                 ok: true,
@@ -164,7 +164,7 @@ fn enter_call(table: &mut [u8], l: Layout, s: Now) -> Now
 {
     let last = last_place(l, s.rank);
     put_word(table, last + 1, s.e);
-    put_word(table, last + 2, s.top * 2048);
+    put_word(table, last + 2, s.top * Now::PLACES);
     Now {
         q: s.q,
         p: s.p,
@@ -194,7 +194,7 @@ fn leave_part(table: &[u8], l: Layout, s: Now) -> Stepped
         rank: s.rank,
         top: s.top,
         inside: true,
-        tp: link % 2048,
+        tp: link % Now::PLACES,
         b: s.b,
         d: s.d,
     })

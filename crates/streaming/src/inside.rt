@@ -12,6 +12,7 @@ ghost use Rattle.streaming.specs.Step.{StepsInside};
 use crate::Now;
 use crate::Stepped;
 use cells::Layout;
+use cells::Place;
 use cells::put_word;
 use cells::word;
 use strings::Sign;
@@ -34,7 +35,7 @@ fn keep_place(table: &mut [u8], at: usize, tp: usize)
     ensures { λ r. ⌜ PlaceKept at tp (now (table .entry)) (now (table .exit)) ⌝ }
 {
     let link = word(table, at);
-    put_word(table, at, link / 2048 * 2048 + tp + 2);
+    put_word(table, at, link / Now::PLACES * Now::PLACES + tp + 2);
 }
 
 // Argument j entered.
@@ -48,9 +49,9 @@ fn enter(table: &mut [u8], l: Layout, j: usize, s: Now) -> Now
     let to = word(table, cell + (j + 1));
     Now {
         q: s.q,
-        p: from / 16384,
-        e: to / 16384,
-        rank: from % 16384,
+        p: from / Place::RANKS,
+        e: to / Place::RANKS,
+        rank: from % Place::RANKS,
         top: s.top,
         inside: false,
         tp: s.tp,
@@ -74,7 +75,7 @@ fn enter_argument(table: &mut [u8], l: Layout, i: u8, s: Now) -> Stepped
     if l.places <= j {
         return Stepped::Lost;
     }
-    if 2046 <= s.tp {
+    if Now::LAST <= s.tp {
         return Stepped::Lost;
     }
     Stepped::On(enter(table, l, j, s))
@@ -88,7 +89,7 @@ fn write_template(g: Sign, out: &mut [u8], s: Now) -> Stepped
     let f = put_one(g, out, s.q);
     if f.fits {
         let b = opened(s.b, g);
-        if b <= 65536 {
+        if b <= Now::BRACKETS {
             return Stepped::On(Now {
                 q: f.len,
                 p: s.p,
@@ -120,10 +121,10 @@ fn leave_call(table: &[u8], l: Layout, s: Now) -> Stepped
     let link = word(table, cell + 2);
     Stepped::On(Now {
         q: s.q,
-        p: after / 16384,
+        p: after / Place::RANKS,
         e: end,
-        rank: after % 16384,
-        top: link / 2048,
+        rank: after % Place::RANKS,
+        top: link / Now::PLACES,
         inside: false,
         tp: s.tp,
         b: s.b,

@@ -21,6 +21,17 @@ pub struct Now {
     pub d: usize,
 }
 
+impl Now {
+    // The link of a call keeps where its template goes on in its lowest 11 bits and the call around above them.
+    pub const PLACES: usize = 2048;
+
+    // From here on there is no place behind the two bytes of an argument.
+    pub const LAST: usize = Now::PLACES - 2;
+
+    // As many brackets of templates as 16 bits count.
+    pub const BRACKETS: usize = 65536;
+}
+
 // What a step comes to: it goes on; all is written, so many bytes; there is no room for a symbol, or no two bytes for an index; it cannot be told.
 pub enum Stepped {
     On(Now),

@@ -12,10 +12,13 @@ use lib.Seq.{getD-set-other, getD-set-same}
 use Rattle.limits.specs.Limits.{maxDefinitions}
 use Rattle.theory.specs.Lists.{find, numbersFrom, orElse}
 use Rattle.context.specs.Lookup.{asCode, codeUnder, standsUnder}
-use Rattle.context.specs.Store.{viaAt, wordCount}
+use Rattle.context.specs.Entries.{wordCount}
+use Rattle.store.specs.Store.{viaAt}
 use Rattle.context.specs.declared.Code.{Code}
 use Rattle.context.specs.declared.Code.the-variants.{At, Absent}
 use Rattle.context.proofs.Parts.{past, up-end, up-turn}
+use Rattle.tables.specs.Tables.{nextsFrom, tableBytes, tablesIn}
+use Rattle.tables.proofs.Parts.{next-in, nexts-length}
 use Rattle.tables.specs.Brought.{Nexted, Represented, Rowed, firstFrom, nextBytes, nextIn, rowAt, rowsFrom, toldBy}
 
 -- searches among numbers
@@ -163,19 +166,19 @@ module _ (names : List ℕ) (f s after x : ℕ) (e : x ≡ getD names s 0) where
   nearest-after h = rw (← e, ne-eqb f x h) refl
 
 -- a row: from s on it is right, and the last that was put there is known
-pub record Row (names t₀ : List ℕ) (r s found : ℕ) (t : List ℕ) : Type 0 where
+pub record RowFrom (names t₀ : List ℕ) (r s found : ℕ) (t : List ℕ) : Type 0 where
   pub rowed : Rowed names t₀ r s t
   pub top : s ≤ maxDefinitions
   pub last : found ≡ orElse 0 (firstFrom names (getD names r 0) s)
 
-pub row-start : (names t : List ℕ) (r : ℕ) → length t ≡ nextBytes → Row names t r maxDefinitions 0 t
+pub row-start : (names t : List ℕ) (r : ℕ) → length t ≡ nextBytes → RowFrom names t r maxDefinitions 0 t
 row-start names t r h = record {
   rowed = record { size = h; before = λ i l. refl; at = λ k (l : maxDefinitions ≤ k) (m : k < maxDefinitions). absurd (omega arith) };
   top = omega arith;
   last = rw (first-end names (getD names r 0) maxDefinitions (omega arith)) refl;
 }
 
-module _ (names t₀ : List ℕ) (r s found : ℕ) (t : List ℕ) (inv : Row names t₀ r s found t) where
+module _ (names t₀ : List ℕ) (r s found : ℕ) (t : List ℕ) (inv : RowFrom names t₀ r s found t) where
   pub row-size : (d : List ℕ) → length d ≡ nextBytes → length t ≡ length d
   row-size d h = inv .rowed .size ∙ sym h
 
@@ -195,7 +198,7 @@ module _ (names t₀ : List ℕ) (r s found : ℕ) (t : List ℕ) (inv : Row nam
         go true p = refl
         go false p = inv .last ∙ ap (λ (y : ℕ). orElse 0 (firstFrom names y s)) (sym ef)
 
-    pub row-turn : Row names t₀ r k x (set t (rowsFrom + maxDefinitions * r + k) x)
+    pub row-turn : RowFrom names t₀ r k x (set t (rowsFrom + maxDefinitions * r + k) x)
     row-turn = record {
       rowed = record {
         size = length-set t (rowsFrom + maxDefinitions * r + k) x ∙ inv .rowed .size;
@@ -219,22 +222,22 @@ module _ (names t₀ : List ℕ) (r s found : ℕ) (t : List ℕ) (inv : Row nam
             (λ (y : rowsFrom + (maxDefinitions * r + j) ≡ rowsFrom + maxDefinitions * r + k). z (omega arith)) ∙ inv .rowed .at j (omega arith) h
 
 -- the rows below n are right
-pub record Rows (names : List ℕ) (n : ℕ) (t : List ℕ) : Type 0 where
+pub record RowsFrom (names : List ℕ) (n : ℕ) (t : List ℕ) : Type 0 where
   pub represented : Represented names maxDefinitions t
   pub top : n ≤ maxDefinitions
   pub at : (r k : ℕ) → r < n → k < maxDefinitions → rowAt t r k ≡ orElse 0 (firstFrom names (getD names r 0) k)
 
-pub rows-start : (names t : List ℕ) → Represented names maxDefinitions t → Rows names 0 t
+pub rows-start : (names t : List ℕ) → Represented names maxDefinitions t → RowsFrom names 0 t
 rows-start names t h = record { represented = h; top = omega arith; at = λ r k (l : r < 0) m. absurd (omega arith) }
 
-module _ (names : List ℕ) (n : ℕ) (t : List ℕ) (inv : Rows names n t) where
+module _ (names : List ℕ) (n : ℕ) (t : List ℕ) (inv : RowsFrom names n t) where
   pub rows-size : length t ≡ nextBytes
   rows-size = inv .represented .size
 
   pub rows-same-size : (d : List ℕ) → Represented names maxDefinitions d → length t ≡ length d
   rows-same-size d h = rows-size ∙ sym (h .size)
 
-  pub rows-turn : (t′ : List ℕ) → n < maxDefinitions → Rowed names t n 0 t′ → Rows names (n + 1) t′
+  pub rows-turn : (t′ : List ℕ) → n < maxDefinitions → Rowed names t n 0 t′ → RowsFrom names (n + 1) t′
   rows-turn t′ h d = record {
     represented = record {
       size = d .size;
@@ -282,9 +285,6 @@ module _ (names : List ℕ) (n : ℕ) (t : List ℕ) (inv : Rows names n t) wher
       by-name f s ls true p = by-row f s ls (eqb-true f (getD names (getD t f 0) 0) p) (ltb (getD t f 0) maxDefinitions) refl
       by-name f s ls false p = sym (untold f s (λ _ e. eqb-false f (getD names (getD t f 0) 0) p (sym e)))
 
-pub no-nexts : (names t : List ℕ) → length t ≡ 0 → Nexted names t
-no-nexts names t h = record { at = λ f s lf ls lt. absurd (omega arith) }
-
 -- what a row says
 module _ (names : List ℕ) (f s g : ℕ) where
   pub told-below : g < s → Absent ≡ asCode (toldBy names f s g)
@@ -301,15 +301,21 @@ module _ (names : List ℕ) (f s g : ℕ) where
     told-other h = rw (le-leb s g low, ← ex, ne-eqb f x h) refl
 
 -- a lookup by the table
-module _ (names t : List ℕ) (f s r x : ℕ) (right : Nexted names t) (hf : f < wordCount) (hs : s < maxDefinitions) (ht : nextBytes ≤ length t) (er : r ≡ getD t f 0)
-    (ex : x ≡ getD names r 0) where
+module _ (names t : List ℕ) (f s r x : ℕ) (right : Nexted names (tablesIn t .nexts)) (hf : f < wordCount) (hs : s < maxDefinitions) (ht : tableBytes ≤ length t)
+    (er : r ≡ getD t (nextsFrom + f) 0) (ex : x ≡ getD names r 0) where
+  row-in : r ≡ getD (tablesIn t .nexts) f 0
+  row-in = er ∙ next-in t f (omega arith)
+
   pub next-other : (f ≡ x → ⊥) → Absent ≡ asCode (firstFrom names f s)
   unfolding nextIn asCode
-  next-other h = rw (← (right .at f s hf hs ht), ← er, ← ex, ne-eqb f x h) refl
+  next-other h = rw (← (right .at f s hf hs (nexts-length t ht)), ← row-in, ← ex, ne-eqb f x h) refl
 
-  pub next-told : (g : ℕ) (y : Code) → f ≡ x → g ≡ rowAt t r s → y ≡ asCode (toldBy names f s g) → y ≡ asCode (firstFrom names f s)
+  pub next-told : (g : ℕ) (y : Code) → r < maxDefinitions → f ≡ x → g ≡ getD t (nextsFrom + (rowsFrom + (maxDefinitions * r + s))) 0 → y ≡ asCode (toldBy names f s g)
+      → y ≡ asCode (firstFrom names f s)
   unfolding nextIn
-  next-told g y e eg ey = ey ∙ ap asCode (rw (← (right .at f s hf hs ht), ← er, ← ex, ← eg, eq-eqb f x e) refl)
+  next-told g y hr e eg ey =
+      let eg′ : g ≡ rowAt (tablesIn t .nexts) r s = eg ∙ next-in t (rowsFrom + (maxDefinitions * r + s)) (omega arith) in
+      ey ∙ ap asCode (rw (← (right .at f s hf hs (nexts-length t ht)), ← row-in, ← ex, ← eg′, eq-eqb f x e) refl)
 
 -- the first of a name, against the first of that name under an instance among count of them
 and-false : (a b : Bool) → b ≡ false → a && b ≡ false

@@ -1,2 +1,4 @@
+pub mod Parts
 pub mod Bringing
 pub mod Naming
+pub mod Filling

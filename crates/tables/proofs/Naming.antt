@@ -14,7 +14,7 @@ use Rattle.tokens.specs.declared.Token.{Token}
 use Rattle.tokens.specs.declared.Token.the-variants.{InstanceOperator, Name}
 use Rattle.context.specs.Lookup.{asCode, broughtAt, broughtIn, codeNamed, operatorAt, operatorIn}
 use Rattle.context.specs.Parts.{part}
-use Rattle.context.specs.Store.{wordCount}
+use Rattle.context.specs.Entries.{wordCount}
 use Rattle.context.specs.declared.Brought.{Brought}
 use Rattle.context.specs.declared.Code.{Code}
 use Rattle.context.specs.declared.Code.the-variants.{At, Absent}
@@ -23,6 +23,8 @@ use Rattle.context.proofs.Parts.{part-end, part-turn}
 use Rattle.resolve.specs.Look.{broughtRef, lookIn, operatorRef}
 use Rattle.resolve.specs.declared.Look.{Look}
 use Rattle.resolve.specs.declared.Look.the-variants.{NoRef}
+use Rattle.tables.specs.Tables.{tableBytes, tablesIn}
+use Rattle.tables.proofs.Parts.{place-number, places-length}
 use Rattle.tables.specs.Names.{Tabled, TabledFrom, Zeroed, codeAt, nameBytes, placed}
 
 -- an entry of the table
@@ -121,12 +123,11 @@ module _ (names contexts : List ℕ) (from end i : ℕ) (table : List ℕ) (inv 
   placing-end h = let e : i ≡ from = omega (arith, inv .low) in subst (λ (k : ℕ). TabledFrom names contexts from end k table) e (inv .tabled)
 
 -- a name found by the table
-pub by-table : (names contexts : List ℕ) (from end : ℕ) (table : List ℕ) (n w : ℕ) (r : Code) → Tabled names contexts from end table → 2 * n + 1 < length table
-    → w ≡ numberAt table (2 * n) → r ≡ asCode (codeAt contexts from w) → r ≡ asCode (codeNamed names n (part contexts from (end - from)))
-by-table names contexts from end table n w r t h ew e = e ∙ ap (λ (y : ℕ). asCode (codeAt contexts from y)) ew ∙ ap asCode (t .at n h)
-
-pub no-table : (names contexts : List ℕ) (from end : ℕ) (table : List ℕ) → length table ≡ 0 → Tabled names contexts from end table
-no-table names contexts from end table h = record { at = λ n l. absurd (omega arith) }
+pub by-table : (names contexts : List ℕ) (from end : ℕ) (t : List ℕ) (n w : ℕ) (r : Code) → Tabled names contexts from end (tablesIn t .places) → tableBytes ≤ length t
+    → n < wordCount → w ≡ numberAt t (2 * n) → r ≡ asCode (codeAt contexts from w) → r ≡ asCode (codeNamed names n (part contexts from (end - from)))
+by-table names contexts from end t n w r d h l ew e =
+    let a : nameBytes ≤ length (tablesIn t .places) = places-length t h in
+    e ∙ ap (λ (y : ℕ). asCode (codeAt contexts from y)) (ew ∙ place-number t n l) ∙ ap asCode (d .at n (omega arith))
 
 -- what a code that was found means
 module _ (facts : List ℕ) (x : Code) where
@@ -166,3 +167,8 @@ zeros-at (suc k) (suc n) = zeros-at k n
 
 pub zeroed : (k : ℕ) → Zeroed (replicate k 0)
 zeroed k = record { at = λ n. zeros-at k n }
+
+-- what is read of a part that was lent
+module _ {A B : Type 0} (f : List ℕ → A → B) where
+  pub of-lent : (l l′ : List ℕ) (x : A) (r : B) → l ≡ l′ → r ≡ f l x → r ≡ f l′ x
+  of-lent l l′ x r e h = h ∙ ap (λ (y : List ℕ). f y x) e

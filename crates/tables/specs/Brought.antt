@@ -8,13 +8,15 @@ use lib.Dec.{eqb, leb}
 use lib.ListN.{getD, length}
 use Rattle.limits.specs.Limits.{maxDefinitions}
 use Rattle.theory.specs.Lists.{find, numbersFrom, orElse}
+use Rattle.context.specs.Entries.{wordCount}
 
--- a byte for each name, and one for each two definitions
-abbrev pub nextBytes : ℕ
-nextBytes = 131072
-
+-- a byte for each name,
 abbrev pub rowsFrom : ℕ
-rowsFrom = 65536
+rowsFrom = wordCount
+
+-- and one for each two definitions
+abbrev pub nextBytes : ℕ
+nextBytes = rowsFrom + maxDefinitions * maxDefinitions
 
 unfoldable pub firstFrom : List ℕ → ℕ → ℕ → Option ℕ
 firstFrom names f s = find (λ g. eqb f (getD names g 0)) (numbersFrom s (maxDefinitions - s))

@@ -1,3 +1,4 @@
 pub mod Names
 pub mod Brought
+pub mod Tables
 pub mod Serves

@@ -8,6 +8,7 @@ use lib.Dec.{eqb}
 use lib.ListN.{getD, length, set}
 use Rattle.context.specs.Lookup.{codeNamed}
 use Rattle.context.specs.Parts.{part}
+use Rattle.context.specs.Entries.{wordCount}
 use Rattle.tokens.specs.Token.{numberAt}
 
 -- the code that an entry stands for: 0 for none, else 1 more than its place in the context
@@ -16,7 +17,7 @@ codeAt contexts from w = cond (eqb w 0) none (some (getD contexts (from + (w - 1
 
 -- two bytes for each name
 abbrev pub nameBytes : ℕ
-nameBytes = 131072
+nameBytes = 2 * wordCount
 
 unfoldable pub placed : List ℕ → ℕ → ℕ → List ℕ
 placed table i w = set (set table i (w / 256)) (i + 1) (w % 256)

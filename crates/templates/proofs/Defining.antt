@@ -9,7 +9,7 @@ use lib.Seq.{getD-set-other, getD-set-same}
 use native.Mathlib.Omega.{arith}
 use Prim.Native.Nat.{_+_, _<_, _≤_, ℕ}
 use Rattle.limits.specs.Limits.{maxDefinitions}
-use Rattle.context.specs.Store.{Store, store}
+use Rattle.store.specs.Store.{Store}
 use Rattle.callees.specs.Walk.{ChainEntered}
 use Rattle.unfolding.proofs.AllRight.{RightBelow}
 use Rattle.unfolding.proofs.Callees.{right-shapes}
@@ -84,11 +84,11 @@ clearing-end shapes i s l = record { long = s .long; none = none }
         go false z = List·getD-eq-default shapes 0 (omega (arith, s .long, ltb-false j i z))
 
 -- the chain entered, and the shapes of its stand-ins stored
-pub prepared : (file refs names facts contexts orders heads declared : List ℕ) (n d : ℕ) (shapes : List ℕ) (k : ℕ) (numbers currents outers before along : List ℕ)
-    → Begun shapes before → ChainEntered facts orders heads d k numbers currents outers
-    → StandInsStored file refs (store names facts contexts orders heads) declared n k numbers currents outers before along
-    → Prepared file refs (store names facts contexts orders heads) declared n d shapes k numbers currents outers along
-prepared file refs names facts contexts orders heads declared n d shapes k numbers currents outers before along b c s =
+pub prepared : (file refs : List ℕ) (v : Store) (n d : ℕ) (shapes : List ℕ) (k : ℕ) (numbers currents outers before along : List ℕ)
+    → Begun shapes before → ChainEntered v d k numbers currents outers
+    → StandInsStored file refs v (v .declared) n k numbers currents outers before along
+    → Prepared file refs v (v .declared) n d shapes k numbers currents outers along
+prepared file refs v n d shapes k numbers currents outers before along b c s =
     record {
       few = c .few;
       long = s .long ∙ b .long;
@@ -101,14 +101,14 @@ prepared file refs names facts contexts orders heads declared n d shapes k numbe
     begun : ShapesFit shapes → ShapesFit before
     begun f i = subst (λ (y : ℕ). y < shapeLimit) (sym (b .same i)) (f i)
 
-    chain : (x : Told file refs (store names facts contexts orders heads) declared n) → d < x .counts .definitions
-        → Entered (x .state) (x .rows) (x .ready .worlds .runs) facts d k numbers currents outers
+    chain : (x : Told file refs v (v .declared) n) → d < x .counts .definitions
+        → Entered (x .state) (x .rows) (x .ready .worlds .runs) (v .facts) d k numbers currents outers
     chain x there =
-        c .chain file refs names contexts declared n (x .counts) (x .state) (x .rows) (x .decls) (x .end) (x .ready) there (x .room) (x .within) (x .depths)
+        c .chain file refs n (x .counts) (x .state) (x .rows) (x .decls) (x .end) (x .ready) there (x .room) (x .within) (x .depths)
 
 module _ (file refs : List ℕ) (v : Store) (declared : List ℕ) (n d : ℕ) where
   pub definition-stored : (shapes : List ℕ) (k : ℕ) (numbers currents outers along : List ℕ) (h : ℕ) → length shapes ≡ maxDefinitions → d < maxDefinitions
-      → Prepared file refs v declared n d shapes k numbers currents outers along → OwnShape file refs v declared n k numbers currents outers along h
+      → Prepared file refs v declared n d shapes k numbers currents outers along → OwnShape file refs v declared k numbers currents outers along h
       → DefinitionStored file refs v declared n d shapes (set shapes d h)
   definition-stored shapes k numbers currents outers along h long few p o = record { shape = h; small = o .small; stored = refl; right = right }
     where
@@ -121,7 +121,7 @@ module _ (file refs : List ℕ) (v : Store) (declared : List ℕ) (n d : ℕ) wh
           right-shapes (x .state) (shapesOf (set along d h)) (shapesOf (set shapes d h)) d (here ∙ sym there′)
           (shapes-on file refs v declared n d (x .counts) (x .state) (x .rows) (x .decls) (x .end) (x .ready) there (x .room) k numbers currents outers chain
           (shapesOf along) (shapesOf (set along d h)) agreed (below-kept (x .state) (shapesOf shapes) (shapesOf along) d (λ i q. sym (p .kept i (omega arith))) below)
-          (p .right x there fit) (here ∙ o .right x d there chain (p .fit fit)) d (omega arith))
+          (p .right x there fit) (here ∙ o .right n x d there chain (p .fit fit)) d (omega arith))
         where
           agreed : Agreed (shapesOf along) (shapesOf (set along d h)) d (levelEnd k)
           agreed = (

@@ -12,7 +12,7 @@ use Rattle.limits.specs.Limits.{maxArity, maxDeclarations}
 use Rattle.theory.specs.Term.{Kind, Term, constant, kindArity, variable}
 use Rattle.symbols.specs.Spell.{shapeLimit, shapeOf, spell}
 use Rattle.texts.specs.Text.{noDeclaration}
-use Rattle.context.specs.Store.{Store, kindAt, store}
+use Rattle.store.specs.Store.{Store, kindAt}
 use Rattle.worlds.specs.Rows.{worldOf}
 use Rattle.worlds.specs.World.{AnyName, Declared}
 use Rattle.entering.proofs.Outset.{kindNumber}
@@ -86,9 +86,15 @@ kind-same (constant a) variable p q e = absurd (omega arith)
 kind-same variable (constant b) p q e = absurd (omega arith)
 kind-same variable variable p q e = refl
 
-module _ (file refs names facts contexts orders heads declared : List ℕ) (n : ℕ) (numbers currents outers : List ℕ) where
-  abbrev v : Store
-  v = store names facts contexts orders heads
+module _ (file refs : List ℕ) (v : Store) (n : ℕ) (numbers currents outers : List ℕ) where
+  abbrev names : List ℕ
+  names = v .names
+
+  abbrev facts : List ℕ
+  facts = v .facts
+
+  abbrev declared : List ℕ
+  declared = v .declared
 
   -- declarations alike by the arrays are the same
   declared-same : (x : Told file refs v declared n) (e f : ℕ) → e < length (x .decls) → f < length (x .decls) → areAlike names facts declared e f ≡ true
@@ -113,20 +119,20 @@ module _ (file refs names facts contexts orders heads declared : List ℕ) (n : 
   -- The shape of stand-in m.
   module _ (m : ℕ) (along : List ℕ) where
     -- none where there is no declaration
-    pub next-none : n ≤ entryOf m → NextShape file refs (store names facts contexts orders heads) declared n m numbers currents outers along 0
+    pub next-none : n ≤ entryOf m → NextShape file refs v declared n m numbers currents outers along 0
     next-none q =
         record {
           small = λ fit. omega arith;
           right = λ x d k there chain fit below a. absurd (omega (arith, a .named .0, x .ready .numbered));
         }
 
-    pub next-spelt : (r : ℕ) → StandInShape file refs (store names facts contexts orders heads) declared n m numbers currents outers along r
-        → NextShape file refs (store names facts contexts orders heads) declared n m numbers currents outers along r
-    next-spelt r s = record { small = λ fit. s .small; right = λ x d k there chain fit below a. s .right x d k there chain fit a }
+    pub next-spelt : (r : ℕ) → StandInShape file refs v declared m numbers currents outers along r
+        → NextShape file refs v declared n m numbers currents outers along r
+    next-spelt r s = record { small = λ fit. s .small; right = λ x d k there chain fit below a. s .right n x d k there chain fit a }
 
     -- that of an earlier declaration
     pub next-alike : (firsts : List ℕ) (e f r : ℕ) → FirstsNoted names facts declared firsts → firstStandIn ≤ m → e ≡ entryOf m → f ≡ getD firsts e 0 → f < e
-        → r ≡ getD along (m - e + f) 0 → NextShape file refs (store names facts contexts orders heads) declared n m numbers currents outers along r
+        → r ≡ getD along (m - e + f) 0 → NextShape file refs v declared n m numbers currents outers along r
     next-alike firsts e f r noted high qe qf before q = record { small = λ fit. subst (λ (y : ℕ). y < shapeLimit) (sym q) (fit (m - e + f)); right = right }
       where
         h : FirstAlike names facts declared e f

@@ -15,7 +15,7 @@ use Rattle.theory.proofs.Bytes.{bytes}
 use Rattle.theory.specs.Term.{Term, kindArity}
 use Rattle.rules.specs.State.{paramsOf}
 use Rattle.texts.specs.Text.{noDeclaration}
-use Rattle.context.specs.Store.{Store}
+use Rattle.store.specs.Store.{Store}
 use Rattle.worlds.proofs.Uses.{uses-more}
 use Rattle.worlds.specs.Rows.{worldOf}
 use Rattle.worlds.specs.World.{World}

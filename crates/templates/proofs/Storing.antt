@@ -13,7 +13,7 @@ use Rattle.limits.specs.Limits.{fileBytes, maxDeclarations, maxDefinitions}
 use Rattle.symbols.specs.Spell.{maxParams, shapeLimit, shapeOf, spell}
 use Rattle.symbols.specs.Symbol.{Symbol}
 use Rattle.theory.specs.Term.{Arities, Term, WellFormed}
-use Rattle.context.specs.Store.{Store, store}
+use Rattle.store.specs.Store.{Store}
 use Rattle.worlds.proofs.Uses.{uses-more}
 use Rattle.worlds.specs.Rows.{worldOf}
 use Rattle.strings.proofs.Reading.{stands}
@@ -45,40 +45,43 @@ string-shape ar p t shapes end out room fits len h r s short big long near forme
     let z : h ≡ shapeOf gs = e ∙ ap shapeOf same in
     kept .same (omega arith) ∙ z
 
-module _ (file refs names facts contexts orders heads declared : List ℕ) (n : ℕ) (numbers currents outers : List ℕ) where
-  abbrev v : Store
-  v = store names facts contexts orders heads
+module _ (file refs : List ℕ) (v : Store) (numbers currents outers : List ℕ) where
+  abbrev facts : List ℕ
+  facts = v .facts
+
+  abbrev declared : List ℕ
+  declared = v .declared
 
   pub standin-shaped : (m : ℕ) (along out : List ℕ) (room : ℕ) (fits : Bool) (len l e h r : ℕ) → m < shapeCount → l ≡ levelOf m - 1 → e ≡ entryOf m
-      → StandInString file refs names facts contexts heads declared numbers currents outers along l e out room fits len → textBytes ≤ room → length out ≡ room
-      → h ≡ shapeOf (stringAt out 0 len) → Kept h r → StandInShape file refs (store names facts contexts orders heads) declared n m numbers currents outers along r
+      → StandInString file refs v numbers currents outers along l e out room fits len → textBytes ≤ room → length out ≡ room
+      → h ≡ shapeOf (stringAt out 0 len) → Kept h r → StandInShape file refs v declared m numbers currents outers along r
   standin-shaped m along out room fits len l e h r near ql qe s big long q kept = record { small = kept .small; right = right }
     where
-      right : (x : Told file refs v declared n) (d k : ℕ) → d < x .counts .definitions → ChainHeld file refs v declared n d k numbers currents outers x → ShapesFit along
+      right : (n : ℕ) (x : Told file refs v declared n) (d k : ℕ) → d < x .counts .definitions → ChainHeld file refs v declared n d k numbers currents outers x → ShapesFit along
           → Along file refs v declared n d k m x
           → r ≡ shapeOf (spell (shapesOf along) (standInTerm file refs v (x .decls) numbers currents outers (levelOf m - 1) (entryOf m)))
-      right x d k there chain fit a =
+      right n x d k there chain fit a =
           let u = standin-text file refs v declared n d k numbers currents outers x there chain m a in
-          let s′ : StandInString file refs names facts contexts heads declared numbers currents outers along (levelOf m - 1) (entryOf m) out room fits len =
-          subst (λ (j : ℕ). StandInString file refs names facts contexts heads declared numbers currents outers along (levelOf m - 1) j out room fits len) qe
-          (subst (λ (j : ℕ). StandInString file refs names facts contexts heads declared numbers currents outers along j e out room fits len) ql s) in
+          let s′ : StandInString file refs v numbers currents outers along (levelOf m - 1) (entryOf m) out room fits len =
+          subst (λ (j : ℕ). StandInString file refs v numbers currents outers along (levelOf m - 1) j out room fits len) qe
+          (subst (λ (j : ℕ). StandInString file refs v numbers currents outers along j e out room fits len) ql s) in
           let on = along-on file refs v declared n d k numbers currents outers x there chain m a in
           let named = along-named file refs v declared n d k numbers currents outers x there chain m a in
           string-shape _ _ (standInTerm file refs v (x .decls) numbers currents outers (levelOf m - 1) (entryOf m)) along (x .end) out room fits len h r
-          (s′ .string orders n d (x .counts) (x .state) (x .rows) (x .decls) (x .end) (x .ready) there (x .room) k chain on named fit) (x .short) big long
+          (s′ .string n d (x .counts) (x .state) (x .rows) (x .decls) (x .end) (x .ready) there (x .room) k chain on named fit) (x .short) big long
           (standin-near file refs v declared n d k numbers currents outers x there chain m a (shapesOf along) near) (u .formed) (omega (arith, u .few)) q kept
 
   pub own-shaped : (k : ℕ) (along out : List ℕ) (room : ℕ) (fits : Bool) (len h r : ℕ) → k ≤ maxLinks
-      → OwnString file refs names facts declared numbers currents outers along k out room fits len → textBytes ≤ room → length out ≡ room
-      → h ≡ shapeOf (stringAt out 0 len) → Kept h r → OwnShape file refs (store names facts contexts orders heads) declared n k numbers currents outers along r
+      → OwnString file refs v numbers currents outers along k out room fits len → textBytes ≤ room → length out ≡ room
+      → h ≡ shapeOf (stringAt out 0 len) → Kept h r → OwnShape file refs v declared k numbers currents outers along r
   own-shaped k along out room fits len h r few s big long q kept = record { small = kept .small; right = right }
     where
-      right : (x : Told file refs v declared n) (d : ℕ) → d < x .counts .definitions → ChainHeld file refs v declared n d k numbers currents outers x → ShapesFit along
+      right : (n : ℕ) (x : Told file refs v declared n) (d : ℕ) → d < x .counts .definitions → ChainHeld file refs v declared n d k numbers currents outers x → ShapesFit along
           → r ≡ shapeOf (spell (shapesOf along) (ownTerm file refs facts (x .decls) k numbers currents outers))
-      right x d there chain fit =
+      right n x d there chain fit =
           let u = own-text file refs v declared n d k numbers currents outers x there chain in
           string-shape _ _ (ownTerm file refs facts (x .decls) k numbers currents outers) along (x .end) out room fits len h r
-          (s .string contexts orders heads n d (x .counts) (x .state) (x .rows) (x .decls) (x .end) (x .ready) there (x .room) chain fit) (x .short) big long
+          (s .string n d (x .counts) (x .state) (x .rows) (x .decls) (x .end) (x .ready) there (x .room) chain fit) (x .short) big long
           (own-near file refs v declared n d k numbers currents outers x there chain (shapesOf along) few) (u .formed) (omega (arith, u .few)) q kept
 
 pub set-fit : (along : List ℕ) (m r : ℕ) → r < shapeLimit → ShapesFit along → ShapesFit (set along m r)

@@ -16,7 +16,7 @@ use Rattle.theory.specs.Lists.{any}
 use Rattle.theory.specs.Term.{Term, kindArity}
 use Rattle.rules.specs.State.{paramsOf}
 use Rattle.texts.specs.Text.{noDeclaration}
-use Rattle.context.specs.Store.{Store, store}
+use Rattle.store.specs.Store.{Store}
 use Rattle.worlds.specs.Rows.{worldOf}
 use Rattle.strings.proofs.Reading.{stands}
 use Rattle.strings.specs.Read.{stringAt}
@@ -35,7 +35,7 @@ use Rattle.templates.specs.Highest.{highestNumber}
 use Rattle.templates.specs.Shaped.{firstStandIn, shapeCount, textBytes}
 use Rattle.templates.specs.Taking.{AllTaken, Known, Mid, MidAt, MidLong, OwnTaken, StepTaken, TakenOut, workBytes}
 use Rattle.templates.specs.Told.{Told}
-use Rattle.templates.specs.declared.making.Left.{Left}
+use Rattle.templates.specs.declared.making.Unfolded.{Unfolded}
 
 -- a test that no call passes, and one that passes no more
 calls-weaken : (q u : ℕ → Bool) → ((n : ℕ) → q n ≡ false → u n ≡ false) → (gs : List Symbol) → any (calls q) gs ≡ false → any (calls u) gs ≡ false
@@ -47,15 +47,18 @@ pub mid-reads : (file refs : List ℕ) (v : Store) (declared : List ℕ) (n d k 
 mid-reads file refs v declared n d k numbers currents outers along x work len at l =
     stands work 0 (spell (shapesOf along) (at .term)) len (at .spelt) l (at .mid .near)
 
-module _ (file refs names facts contexts orders heads declared : List ℕ) (n k : ℕ) (numbers currents outers along : List ℕ) where
-  abbrev v : Store
-  v = store names facts contexts orders heads
+module _ (file refs : List ℕ) (v : Store) (numbers currents outers along : List ℕ) where
+  abbrev facts : List ℕ
+  facts = v .facts
+
+  abbrev declared : List ℕ
+  declared = v .declared
 
   module _ (m l e : ℕ) (text : List ℕ) (room : ℕ) (fits : Bool) (tlen : ℕ) (before : List ℕ) (len : ℕ) (after : List ℕ) (r : Filled)
       (high : firstStandIn ≤ m) (ql : l ≡ levelOf m - 1) (qe : e ≡ entryOf m)
-      (s : StandInString file refs names facts contexts heads declared numbers currents outers along l e text room fits tlen) (big : textBytes ≤ room) (fills : length text ≡ room)
+      (s : StandInString file refs v numbers currents outers along l e text room fits tlen) (big : textBytes ≤ room) (fills : length text ≡ room)
       (w : Rewritten before len m text tlen along after r) where
-    module _ (x : Told file refs v declared n) (d : ℕ) (known : Known file refs v declared n d k numbers currents outers along x)
+    module _ (n k : ℕ) (x : Told file refs v declared n) (d : ℕ) (known : Known file refs v declared n d k numbers currents outers along x)
         (at : MidAt file refs v declared n d k numbers currents outers along x before len) (top : highestNumber (spell (shapesOf along) (at .term)) ≡ suc m) where
       abbrev σ : ℕ → ℕ
       σ = shapesOf along
@@ -79,10 +82,10 @@ module _ (file refs names facts contexts orders heads declared : List ℕ) (n k 
 
       strung : Strung T along (x .end) text room fits tlen
       strung =
-          let s′ : StandInString file refs names facts contexts heads declared numbers currents outers along (levelOf m - 1) (entryOf m) text room fits tlen =
-          subst (λ (j : ℕ). StandInString file refs names facts contexts heads declared numbers currents outers along (levelOf m - 1) j text room fits tlen) qe
-          (subst (λ (j : ℕ). StandInString file refs names facts contexts heads declared numbers currents outers along j e text room fits tlen) ql s) in
-          s′ .string orders n d (x .counts) (x .state) (x .rows) (x .decls) (x .end) (x .ready) (known .there) (x .room) k (known .chain) (called .on) (called .named) (known .fit)
+          let s′ : StandInString file refs v numbers currents outers along (levelOf m - 1) (entryOf m) text room fits tlen =
+          subst (λ (j : ℕ). StandInString file refs v numbers currents outers along (levelOf m - 1) j text room fits tlen) qe
+          (subst (λ (j : ℕ). StandInString file refs v numbers currents outers along j e text room fits tlen) ql s) in
+          s′ .string n d (x .counts) (x .state) (x .rows) (x .decls) (x .end) (x .ready) (known .there) (x .room) k (known .chain) (called .on) (called .named) (known .fit)
 
       spelt : Spelt text 0 (spell σ T) tlen × (tlen ≤ room)
       spelt = strung .spells .spelt (strung .whole (omega (arith, x .short)) (omega arith))
@@ -148,7 +151,7 @@ module _ (file refs names facts contexts orders heads declared : List ℕ) (n k 
           unfit : r .fits ≡ false → MidLong file refs v declared n d k numbers currents outers along x (length before)
           unfit f = record { term = replaced .term; mid = mid; long = subst (λ (y : ℕ). (y < size (spell σ (replaced .term))) ⊎ (wide (spell σ (replaced .term)) ≡ true)) (w .long) (replaced .no f) }
 
-    pub taken-out : TakenOut file refs (store names facts contexts orders heads) declared n k m numbers currents outers along before len after r
+    pub taken-out : TakenOut file refs v declared m numbers currents outers along before len after r
     taken-out = record { long = w .long; within = w .within; on = on }
 
 goes-on : (a b r : Bool) → r ≡ (a && b) → r ≡ true → (a ≡ true) × (b ≡ true)
@@ -162,11 +165,11 @@ goes-not true false r e q f = sym (f refl)
 goes-not false b r e q f = refl
 
 -- one more than the highest number left
-pub step-taken : (file refs : List ℕ) (v : Store) (declared : List ℕ) (n k h m : ℕ) (numbers currents outers along before : List ℕ) (len : ℕ) (after : List ℕ) (f : Filled) (high : ℕ)
-    (goes : Bool) (r : Left) → suc m ≡ h → TakenOut file refs v declared n k m numbers currents outers along before len after f
+pub step-taken : (file refs : List ℕ) (v : Store) (declared : List ℕ) (h m : ℕ) (numbers currents outers along before : List ℕ) (len : ℕ) (after : List ℕ) (f : Filled) (high : ℕ)
+    (goes : Bool) (r : Unfolded) → suc m ≡ h → TakenOut file refs v declared m numbers currents outers along before len after f
     → high ≡ highestNumber (stringAt after 0 (f .len)) → high ≤ shapeCount → goes ≡ (f .fits && ltb high h) → r .fits ≡ goes → r .len ≡ f .len → r .highest ≡ high
-    → StepTaken file refs v declared n k h numbers currents outers along before len after r
-step-taken file refs v declared n k h m numbers currents outers along before len after f high goes r one o e small g rf rl rh =
+    → StepTaken file refs v declared h numbers currents outers along before len after r
+step-taken file refs v declared h m numbers currents outers along before len after f high goes r one o e small g rf rl rh =
     record {
       long = o .long;
       within = omega (arith, rl, o .within);
@@ -175,159 +178,156 @@ step-taken file refs v declared n k h m numbers currents outers along before len
       on = on;
     }
   where
-    on : (x : Told file refs v declared n) (d : ℕ) → Known file refs v declared n d k numbers currents outers along x
+    on : (n k : ℕ) (x : Told file refs v declared n) (d : ℕ) → Known file refs v declared n d k numbers currents outers along x
         → (at : MidAt file refs v declared n d k numbers currents outers along x before len) → highestNumber (spell (shapesOf along) (at .term)) ≡ h
         → (r .fits ≡ true
         → (at′ : MidAt file refs v declared n d k numbers currents outers along x after (r .len)) × (highestNumber (spell (shapesOf along) (at′ .term)) ≡ r .highest))
         × (r .fits ≡ false → MidLong file refs v declared n d k numbers currents outers along x (length before))
-    on x d known at top = (fit, unfit)
+    on n k x d known at top = (fit, unfit)
       where
         fit : r .fits ≡ true → (at′ : MidAt file refs v declared n d k numbers currents outers along x after (r .len)) × (highestNumber (spell (shapesOf along) (at′ .term)) ≡ r .highest)
         fit q =
-            let y = o .on x d known at (top ∙ sym one) .0 (goes-on (f .fits) (ltb high h) (r .fits) (rf ∙ g) q .0) in (
+            let y = o .on n k x d known at (top ∙ sym one) .0 (goes-on (f .fits) (ltb high h) (r .fits) (rf ∙ g) q .0) in (
               record { term = y .0 .term; mid = y .0 .mid; spelt = subst (Spelt after 0 (spell (shapesOf along) (y .0 .term))) (sym rl) (y .0 .spelt) },
               sym (rh ∙ e ∙ ap highestNumber (mid-reads file refs v declared n d k numbers currents outers along x after (f .len) (y .0) (omega (arith, o .long, o .within)))),
             )
 
         unfit : r .fits ≡ false → MidLong file refs v declared n d k numbers currents outers along x (length before)
         unfit q =
-            o .on x d known at (top ∙ sym one) .1
+            o .on n k x d known at (top ∙ sym one) .1
             (goes-not (f .fits) (ltb high h) (r .fits) (rf ∙ g) q
             (λ a.
-            let y = o .on x d known at (top ∙ sym one) .0 a in
+            let y = o .on n k x d known at (top ∙ sym one) .0 a in
             let z : highestNumber (stringAt after 0 (f .len)) ≡ highestNumber (spell (shapesOf along) (y .0 .term)) =
             ap highestNumber (mid-reads file refs v declared n d k numbers currents outers along x after (f .len) (y .0) (omega (arith, o .long, o .within))) in
             lt-ltb high h (omega (arith, e, z, y .1))))
 
 -- The string is that of a term on the way, and h is one more than the highest number that it calls.
-pub record Underway (file refs : List ℕ) (v : Store) (declared : List ℕ) (n k : ℕ) (numbers currents outers along before : List ℕ) (len : ℕ) (work : List ℕ) (q h : ℕ) : Type 0 where
+pub record Underway (file refs : List ℕ) (v : Store) (declared numbers currents outers along before : List ℕ) (len : ℕ) (work : List ℕ) (q h : ℕ) : Type 0 where
   pub long : length work ≡ length before
   pub within : q ≤ length before
   pub small : h ≤ shapeCount
-  pub on : (x : Told file refs v declared n) (d : ℕ) → Known file refs v declared n d k numbers currents outers along x
+  pub on : (n k : ℕ) (x : Told file refs v declared n) (d : ℕ) → Known file refs v declared n d k numbers currents outers along x
       → MidAt file refs v declared n d k numbers currents outers along x before len
       → (at : MidAt file refs v declared n d k numbers currents outers along x work q) × (highestNumber (spell (shapesOf along) (at .term)) ≡ h)
 
-module _ (file refs : List ℕ) (v : Store) (declared : List ℕ) (n k : ℕ) (numbers currents outers along before : List ℕ) (len : ℕ) where
+module _ (file refs : List ℕ) (v : Store) (declared numbers currents outers along before : List ℕ) (len : ℕ) where
   pub underway-start : (h : ℕ) → len ≤ length before → h ≡ highestNumber (stringAt before 0 len) → h ≤ shapeCount
-      → Underway file refs v declared n k numbers currents outers along before len before len h
+      → Underway file refs v declared numbers currents outers along before len before len h
   underway-start h l e small =
       record {
         long = refl;
         within = l;
         small = small;
-        on = λ x d known at. (at, sym (e ∙ ap highestNumber (mid-reads file refs v declared n d k numbers currents outers along x before len at l)));
+        on = λ n k x d known at. (at, sym (e ∙ ap highestNumber (mid-reads file refs v declared n d k numbers currents outers along x before len at l)));
       }
 
-  module _ (work : List ℕ) (q h : ℕ) (u : Underway file refs v declared n k numbers currents outers along before len work q h) where
-    pub underway-turn : (after : List ℕ) (r : Left) → StepTaken file refs v declared n k h numbers currents outers along work q after r → r .fits ≡ true
-        → Underway file refs v declared n k numbers currents outers along before len after (r .len) (r .highest)
+  module _ (work : List ℕ) (q h : ℕ) (u : Underway file refs v declared numbers currents outers along before len work q h) where
+    pub underway-turn : (after : List ℕ) (r : Unfolded) → StepTaken file refs v declared h numbers currents outers along work q after r → r .fits ≡ true
+        → Underway file refs v declared numbers currents outers along before len after (r .len) (r .highest)
     underway-turn after r s f =
         record {
           long = s .long ∙ u .long;
           within = omega (arith, s .within, u .long);
           small = s .small;
-          on = λ x d known at.
-              let y = u .on x d known at in
-              s .on x d known (y .0) (y .1) .0 f;
+          on = λ n k x d known at.
+              let y = u .on n k x d known at in
+              s .on n k x d known (y .0) (y .1) .0 f;
         }
 
     -- a string too long
-    pub underway-no : (after : List ℕ) (r : Left) (z : Filled) → StepTaken file refs v declared n k h numbers currents outers along work q after r → r .fits ≡ false
-        → z .fits ≡ false → z .len ≡ q → AllTaken file refs v declared n k numbers currents outers along before len after z
+    pub underway-no : (after : List ℕ) (r : Unfolded) (z : Filled) → StepTaken file refs v declared h numbers currents outers along work q after r → r .fits ≡ false
+        → z .fits ≡ false → z .len ≡ q → AllTaken file refs v declared numbers currents outers along before len after z
     underway-no after r z s f zf zl =
         record {
           long = s .long ∙ u .long;
           within = omega (arith, u .within);
-          on = λ x d known at.
-              let y = u .on x d known at in
-              let m : MidLong file refs v declared n d k numbers currents outers along x (length work) = s .on x d known (y .0) (y .1) .1 f in (
+          on = λ n k x d known at.
+              let y = u .on n k x d known at in
+              let m : MidLong file refs v declared n d k numbers currents outers along x (length work) = s .on n k x d known (y .0) (y .1) .1 f in (
                 λ g. never (sym g ∙ zf),
                 λ g. subst (MidLong file refs v declared n d k numbers currents outers along x) (u .long) m,
               );
         }
 
-    pub underway-end : (z : Filled) → h ≤ firstStandIn → z .fits ≡ true → z .len ≡ q → AllTaken file refs v declared n k numbers currents outers along before len work z
+    pub underway-end : (z : Filled) → h ≤ firstStandIn → z .fits ≡ true → z .len ≡ q → AllTaken file refs v declared numbers currents outers along before len work z
     underway-end z top zf zl =
         record {
           long = u .long;
           within = omega (arith, u .within);
-          on = λ x d known at.
-              let y = u .on x d known at in (
+          on = λ n k x d known at.
+              let y = u .on n k x d known at in (
                 λ g. (
                   record { term = y .0 .term; mid = y .0 .mid; spelt = subst (Spelt work 0 (spell (shapesOf along) (y .0 .term))) (sym zl) (y .0 .spelt) },
                   calls-both (stray (x .decls) d (worldOf (x .rows) d) k) (λ i. leb firstStandIn i) (λ i. leb d i)
-                      (λ i a b. under x d i a b) (spell (shapesOf along) (y .0 .term)) (y .0 .mid .taken .known)
+                      (λ i a b. under n k x d i a b) (spell (shapesOf along) (y .0 .term)) (y .0 .mid .taken .known)
                       (highest-none (spell (shapesOf along) (y .0 .term)) firstStandIn (omega (arith, y .1))),
                 ),
                 λ g. never (sym zf ∙ g),
               );
         }
       where
-        under : (x : Told file refs v declared n) (d i : ℕ) → stray (x .decls) d (worldOf (x .rows) d) k i ≡ false → leb firstStandIn i ≡ false → leb d i ≡ false
-        under x d i a b = go (leb d i) refl
+        under : (n k : ℕ) (x : Told file refs v declared n) (d i : ℕ) → stray (x .decls) d (worldOf (x .rows) d) k i ≡ false → leb firstStandIn i ≡ false → leb d i ≡ false
+        under n k x d i a b = go (leb d i) refl
           where
             go : (z : Bool) → leb d i ≡ z → z ≡ false
             go false q = refl
             go true q = absurd (omega (arith, leb-false firstStandIn i b, stray-standin (x .decls) d (worldOf (x .rows) d) k i (leb-true d i q) a .high))
 
 -- the definition's own text
-module _ (file refs names facts contexts orders heads declared : List ℕ) (n k : ℕ) (numbers currents outers along : List ℕ) (few : k ≤ maxLinks) (work : List ℕ) (room : ℕ) (fits : Bool)
-    (len : ℕ) (full : room ≡ workBytes) (fills : length work ≡ room) (s : OwnString file refs names facts declared numbers currents outers along k work room fits len) where
-  abbrev arrays : Store
-  arrays = store names facts contexts orders heads
+module _ (file refs : List ℕ) (v : Store) (k : ℕ) (numbers currents outers along : List ℕ) (few : k ≤ maxLinks) (work : List ℕ) (room : ℕ) (fits : Bool)
+    (len : ℕ) (full : room ≡ workBytes) (fills : length work ≡ room) (s : OwnString file refs v numbers currents outers along k work room fits len) where
+  module _ (n : ℕ) (x : Told file refs v (v .declared) n) (d : ℕ) (known : Known file refs v (v .declared) n d k numbers currents outers along x) where
+    own-strung : Strung (ownTerm file refs (v .facts) (x .decls) k numbers currents outers) along (x .end) work room fits len
+    own-strung = s .string n d (x .counts) (x .state) (x .rows) (x .decls) (x .end) (x .ready) (known .there) (x .room) (known .chain) (known .fit)
 
-  module _ (x : Told file refs arrays declared n) (d : ℕ) (known : Known file refs arrays declared n d k numbers currents outers along x) where
-    own-strung : Strung (ownTerm file refs facts (x .decls) k numbers currents outers) along (x .end) work room fits len
-    own-strung = s .string contexts orders heads n d (x .counts) (x .state) (x .rows) (x .decls) (x .end) (x .ready) (known .there) (x .room) (known .chain) (known .fit)
-
-    own-mid : Mid file refs arrays declared n d k numbers currents outers along x (ownTerm file refs facts (x .decls) k numbers currents outers)
+    own-mid : Mid file refs v (v .declared) n d k numbers currents outers along x (ownTerm file refs (v .facts) (x .decls) k numbers currents outers)
     own-mid =
         record {
           taken =
-              taken-start file refs arrays declared n d (x .counts) (x .state) (x .rows) (x .decls) (x .end) (x .ready) (known .there) (x .room) k numbers currents outers (known .chain)
+              taken-start file refs v (v .declared) n d (x .counts) (x .state) (x .rows) (x .decls) (x .end) (x .ready) (known .there) (x .room) k numbers currents outers (known .chain)
               (shapesOf along) (known .below) (known .shaped);
           near =
-              own-near file refs arrays declared n d (x .counts) (x .state) (x .rows) (x .decls) (x .end) (x .ready) (known .there) (x .room) k numbers currents outers (known .chain)
+              own-near file refs v (v .declared) n d (x .counts) (x .state) (x .rows) (x .decls) (x .end) (x .ready) (known .there) (x .room) k numbers currents outers (known .chain)
               (shapesOf along);
         }
 
-    own-mid-at : len ≤ room → MidAt file refs arrays declared n d k numbers currents outers along x work len
+    own-mid-at : len ≤ room → MidAt file refs v (v .declared) n d k numbers currents outers along x work len
     own-mid-at l =
         record {
-          term = ownTerm file refs facts (x .decls) k numbers currents outers;
+          term = ownTerm file refs (v .facts) (x .decls) k numbers currents outers;
           mid = own-mid;
           spelt = own-strung .spells .spelt (s .told ∙ le-leb len room l) .0;
         }
 
-    own-mid-long : room < len → MidLong file refs arrays declared n d k numbers currents outers along x room
+    own-mid-long : room < len → MidLong file refs v (v .declared) n d k numbers currents outers along x room
     own-mid-long l =
         record {
-          term = ownTerm file refs facts (x .decls) k numbers currents outers;
+          term = ownTerm file refs (v .facts) (x .decls) k numbers currents outers;
           mid = own-mid;
           long = inl (own-strung .spells .short (s .told ∙ lt-leb len room l));
         }
 
   pub own-taken : (after : List ℕ) (r : Filled) → len ≤ length work
-      → AllTaken file refs (store names facts contexts orders heads) declared n k numbers currents outers along work len after r
-      → OwnTaken file refs (store names facts contexts orders heads) declared n k numbers currents outers along after r
+      → AllTaken file refs v (v .declared) numbers currents outers along work len after r
+      → OwnTaken file refs v (v .declared) k numbers currents outers along after r
   own-taken after r l a =
       record {
         long = a .long ∙ fills ∙ full;
         within = omega (arith, a .within);
-        on = λ x d known.
-            let y = a .on x d known (own-mid-at x d known (omega arith)) in
-            (y .0, λ f. subst (MidLong file refs arrays declared n d k numbers currents outers along x) (fills ∙ full) (y .1 f));
+        on = λ n x d known.
+            let y = a .on n k x d known (own-mid-at n x d known (omega arith)) in
+            (y .0, λ f. subst (MidLong file refs v (v .declared) n d k numbers currents outers along x) (fills ∙ full) (y .1 f));
       }
 
   pub own-taken-no : (r : Filled) → length work < len → r .fits ≡ false → r .len ≡ 0
-      → OwnTaken file refs (store names facts contexts orders heads) declared n k numbers currents outers along work r
+      → OwnTaken file refs v (v .declared) k numbers currents outers along work r
   own-taken-no r over f e =
       record {
         long = fills ∙ full;
         within = omega arith;
-        on = λ x d known. (
+        on = λ n x d known. (
           λ g. never (sym g ∙ f),
-          λ g. subst (MidLong file refs arrays declared n d k numbers currents outers along x) full (own-mid-long x d known (omega arith)),
+          λ g. subst (MidLong file refs v (v .declared) n d k numbers currents outers along x) full (own-mid-long n x d known (omega arith)),
         );
       }

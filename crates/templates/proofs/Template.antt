@@ -16,7 +16,7 @@ use Rattle.theory.specs.Expand.{aritiesOf}
 use Rattle.theory.specs.Lists.{any}
 use Rattle.theory.specs.Term.{Term}
 use Rattle.rules.specs.State.{paramsOf, templatesOf}
-use Rattle.context.specs.Store.{Store}
+use Rattle.store.specs.Store.{Store}
 use Rattle.worlds.proofs.Uses.{uses-more}
 use Rattle.worlds.specs.Rows.{worldOf}
 use Rattle.strings.specs.Read.{far}
@@ -41,7 +41,7 @@ use Rattle.templates.specs.Taking.{Known, MidAt, MidLong, OwnTaken, work
 use Rattle.templates.specs.Told.{Told}
 
 module _ (file refs : List ℕ) (v : Store) (declared : List ℕ) (n d : ℕ) (shapes : List ℕ) (k : ℕ) (numbers currents outers along work : List ℕ) (r : Filled)
-    (p : Prepared file refs v declared n d shapes k numbers currents outers along) (o : OwnTaken file refs v declared n k numbers currents outers along work r) where
+    (p : Prepared file refs v declared n d shapes k numbers currents outers along) (o : OwnTaken file refs v declared k numbers currents outers along work r) where
   module _ (x : Told file refs v declared n) (there : d < x .counts .definitions) (fit : ShapesFit shapes)
       (right : RightBelow (x .state) (shapesOf shapes) (x .counts .definitions)) where
     abbrev σ : ℕ → ℕ
@@ -120,7 +120,7 @@ module _ (file refs : List ℕ) (v : Store) (declared : List ℕ) (n d : ℕ) (s
 
     made : MadeOf (x .state) d (shapesOf shapes) work r
     made =
-        let y = o .on x d known in
+        let y = o .on n x d known in
         record {
           yes = λ f.
               let z = y .0 f in

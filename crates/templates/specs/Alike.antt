@@ -6,7 +6,7 @@ use Prim.Native.Nat.{ℕ, _≤_, _<_}
 use lib.Dec.{eqb}
 use lib.ListN.{getD, length}
 use Rattle.limits.specs.Limits.{maxDeclarations}
-use Rattle.context.specs.Store.{kindAt}
+use Rattle.store.specs.Store.{kindAt}
 
 unfoldable pub areAlike : List ℕ → List ℕ → List ℕ → ℕ → ℕ → Bool
 areAlike names facts declared e f =

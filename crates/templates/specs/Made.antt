@@ -11,7 +11,7 @@ use Rattle.theory.proofs.Size.{sizes}
 use Rattle.theory.specs.Lists.{any}
 use Rattle.theory.specs.Term.{Term, eval, withDefined}
 use Rattle.rules.specs.State.{State, paramsOf}
-use Rattle.context.specs.Store.{Store}
+use Rattle.store.specs.Store.{Store}
 use Rattle.strings.specs.Read.{far}
 use Rattle.strings.specs.declared.Filled.{Filled}
 use Rattle.unfolding.specs.CalleeTerm.{senseOf}

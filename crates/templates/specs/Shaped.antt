@@ -5,7 +5,7 @@ use Prim.Native.Nat.{ℕ, _+_, _-_, _*_, _/_, _≤_, _<_}
 use lib.ListN.{getD, length, set}
 use Rattle.limits.specs.Limits.{fileBytes, maxDeclarations, maxDefinitions}
 use Rattle.symbols.specs.Spell.{shapeLimit, shapeOf, spell}
-use Rattle.context.specs.Store.{Store}
+use Rattle.store.specs.Store.{Store}
 use Rattle.worlds.specs.Rows.{worldOf}
 use Rattle.chains.proofs.Knowing.{NamedIn}
 use Rattle.unfolding.specs.CalleeTerm.{Entered, maxLinks, ownTerm, senseOf, standInTerm}
@@ -44,16 +44,16 @@ pub record Kept (h r : ℕ) : Type 0 where
   pub same : h < shapeLimit → r ≡ h
 
 -- r is the shape of stand-in m along the chain that the arrays hold,
-pub record StandInShape (file refs : List ℕ) (v : Store) (declared : List ℕ) (n m : ℕ) (numbers currents outers along : List ℕ) (r : ℕ) : Type 0 where
+pub record StandInShape (file refs : List ℕ) (v : Store) (declared : List ℕ) (m : ℕ) (numbers currents outers along : List ℕ) (r : ℕ) : Type 0 where
   pub small : r < shapeLimit
-  pub right : (x : Told file refs v declared n) (d k : ℕ) → d < x .counts .definitions → ChainHeld file refs v declared n d k numbers currents outers x → ShapesFit along
+  pub right : (n : ℕ) (x : Told file refs v declared n) (d k : ℕ) → d < x .counts .definitions → ChainHeld file refs v declared n d k numbers currents outers x → ShapesFit along
       → Along file refs v declared n d k m x
       → r ≡ shapeOf (spell (shapesOf along) (standInTerm file refs v (x .decls) numbers currents outers (levelOf m - 1) (entryOf m)))
 
 -- or of the definition whose chain it is
-pub record OwnShape (file refs : List ℕ) (v : Store) (declared : List ℕ) (n k : ℕ) (numbers currents outers along : List ℕ) (r : ℕ) : Type 0 where
+pub record OwnShape (file refs : List ℕ) (v : Store) (declared : List ℕ) (k : ℕ) (numbers currents outers along : List ℕ) (r : ℕ) : Type 0 where
   pub small : r < shapeLimit
-  pub right : (x : Told file refs v declared n) (d : ℕ) → d < x .counts .definitions → ChainHeld file refs v declared n d k numbers currents outers x → ShapesFit along
+  pub right : (n : ℕ) (x : Told file refs v declared n) (d : ℕ) → d < x .counts .definitions → ChainHeld file refs v declared n d k numbers currents outers x → ShapesFit along
       → r ≡ shapeOf (spell (shapesOf along) (ownTerm file refs (v .facts) (x .decls) k numbers currents outers))
 
 -- the stand-ins of numbers below m along the chain of definition d have their shapes

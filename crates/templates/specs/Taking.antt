@@ -11,7 +11,7 @@ use Rattle.symbols.specs.Symbol.{Spelt, calls, size, wide}
 use Rattle.theory.specs.Lists.{any}
 use Rattle.theory.specs.Term.{Term}
 use Rattle.rules.specs.State.{paramsOf}
-use Rattle.context.specs.Store.{Store}
+use Rattle.store.specs.Store.{Store}
 use Rattle.worlds.specs.Rows.{worldOf}
 use Rattle.strings.specs.Read.{far}
 use Rattle.strings.specs.declared.Filled.{Filled}
@@ -22,7 +22,7 @@ use Rattle.spelling.specs.Strings.{ShapesFit, shapesOf}
 use Rattle.templates.specs.Highest.{highestNumber}
 use Rattle.templates.specs.Shaped.{ChainHeld, shapeCount}
 use Rattle.templates.specs.Told.{Told}
-use Rattle.templates.specs.declared.making.Left.{Left}
+use Rattle.templates.specs.declared.making.Unfolded.{Unfolded}
 
 -- the bytes of a string that belongs to no expansion too long
 abbrev pub workBytes : ℕ
@@ -55,39 +55,39 @@ pub record MidLong (file refs : List ℕ) (v : Store) (declared : List ℕ) (n d
   pub long : (room < size (spell (shapesOf along) term)) ⊎ (wide (spell (shapesOf along) term) ≡ true)
 
 -- Stand-in m, the highest number that the string calls, has been taken out.
-pub record TakenOut (file refs : List ℕ) (v : Store) (declared : List ℕ) (n k m : ℕ) (numbers currents outers along before : List ℕ) (len : ℕ) (after : List ℕ) (r : Filled) : Type 0 where
+pub record TakenOut (file refs : List ℕ) (v : Store) (declared : List ℕ) (m : ℕ) (numbers currents outers along before : List ℕ) (len : ℕ) (after : List ℕ) (r : Filled) : Type 0 where
   pub long : length after ≡ length before
   pub within : r .len ≤ length before
-  pub on : (x : Told file refs v declared n) (d : ℕ) → Known file refs v declared n d k numbers currents outers along x
+  pub on : (n k : ℕ) (x : Told file refs v declared n) (d : ℕ) → Known file refs v declared n d k numbers currents outers along x
       → (at : MidAt file refs v declared n d k numbers currents outers along x before len) → highestNumber (spell (shapesOf along) (at .term)) ≡ suc m
       → (r .fits ≡ true → (at′ : MidAt file refs v declared n d k numbers currents outers along x after (r .len)) × (highestNumber (spell (shapesOf along) (at′ .term)) ≤ m))
       × (r .fits ≡ false → MidLong file refs v declared n d k numbers currents outers along x (length before))
 
 -- The highest number, one less than h, taken out; what is left is told.
-pub record StepTaken (file refs : List ℕ) (v : Store) (declared : List ℕ) (n k h : ℕ) (numbers currents outers along before : List ℕ) (len : ℕ) (after : List ℕ) (r : Left) : Type 0 where
+pub record StepTaken (file refs : List ℕ) (v : Store) (declared : List ℕ) (h : ℕ) (numbers currents outers along before : List ℕ) (len : ℕ) (after : List ℕ) (r : Unfolded) : Type 0 where
   pub long : length after ≡ length before
   pub within : r .len ≤ length before
   pub small : r .highest ≤ shapeCount
   pub less : r .fits ≡ true → r .highest < h
-  pub on : (x : Told file refs v declared n) (d : ℕ) → Known file refs v declared n d k numbers currents outers along x
+  pub on : (n k : ℕ) (x : Told file refs v declared n) (d : ℕ) → Known file refs v declared n d k numbers currents outers along x
       → (at : MidAt file refs v declared n d k numbers currents outers along x before len) → highestNumber (spell (shapesOf along) (at .term)) ≡ h
       → (r .fits ≡ true
       → (at′ : MidAt file refs v declared n d k numbers currents outers along x after (r .len)) × (highestNumber (spell (shapesOf along) (at′ .term)) ≡ r .highest))
       × (r .fits ≡ false → MidLong file refs v declared n d k numbers currents outers along x (length before))
 
 -- All have been taken out.
-pub record AllTaken (file refs : List ℕ) (v : Store) (declared : List ℕ) (n k : ℕ) (numbers currents outers along before : List ℕ) (len : ℕ) (after : List ℕ) (r : Filled) : Type 0 where
+pub record AllTaken (file refs : List ℕ) (v : Store) (declared numbers currents outers along before : List ℕ) (len : ℕ) (after : List ℕ) (r : Filled) : Type 0 where
   pub long : length after ≡ length before
   pub within : r .len ≤ length before
-  pub on : (x : Told file refs v declared n) (d : ℕ) → Known file refs v declared n d k numbers currents outers along x
+  pub on : (n k : ℕ) (x : Told file refs v declared n) (d : ℕ) → Known file refs v declared n d k numbers currents outers along x
       → MidAt file refs v declared n d k numbers currents outers along x before len
       → (r .fits ≡ true → (at′ : MidAt file refs v declared n d k numbers currents outers along x after (r .len)) × (any (calls (λ i. leb d i)) (spell (shapesOf along) (at′ .term)) ≡ false))
       × (r .fits ≡ false → MidLong file refs v declared n d k numbers currents outers along x (length before))
 
 -- And so of the definition's text itself.
-pub record OwnTaken (file refs : List ℕ) (v : Store) (declared : List ℕ) (n k : ℕ) (numbers currents outers along work : List ℕ) (r : Filled) : Type 0 where
+pub record OwnTaken (file refs : List ℕ) (v : Store) (declared : List ℕ) (k : ℕ) (numbers currents outers along work : List ℕ) (r : Filled) : Type 0 where
   pub long : length work ≡ workBytes
   pub within : r .len ≤ workBytes
-  pub on : (x : Told file refs v declared n) (d : ℕ) → Known file refs v declared n d k numbers currents outers along x
+  pub on : (n : ℕ) (x : Told file refs v declared n) (d : ℕ) → Known file refs v declared n d k numbers currents outers along x
       → (r .fits ≡ true → (at′ : MidAt file refs v declared n d k numbers currents outers along x work (r .len)) × (any (calls (λ i. leb d i)) (spell (shapesOf along) (at′ .term)) ≡ false))
       × (r .fits ≡ false → MidLong file refs v declared n d k numbers currents outers along x workBytes)

@@ -5,7 +5,7 @@ use Rattle.limits.specs.Limits.{fileBytes, maxDeclarations}
 use Rattle.rules.specs.State.{State}
 use Rattle.laws.proofs.Within.{Within}
 use Rattle.texts.specs.Text.{Declarations}
-use Rattle.context.specs.Store.{Store}
+use Rattle.store.specs.Store.{Store}
 use Rattle.context.specs.declared.Counts.{Counts}
 use Rattle.worlds.specs.Rows.{Row}
 use Rattle.worlds.proofs.Depth.{Depths}

@@ -1,7 +1,7 @@
 // The template of a definition: the string of its text, from which the stand-ins are taken out, the highest number first, until only
 // definitions below it are called.
 ghost use mathlib.Core.Bool.{_&&_};
-use crate::Room;
+use crate::ChainRoom;
 use crate::shaping::prepare;
 use callees::strings::own_string;
 use callees::strings::standin_string;
@@ -16,7 +16,6 @@ ghost use Prim.Native.Nat.{_≤_, _<_, max, min};
 ghost use lib.Dec.{ltb};
 ghost use lib.ListN.{length};
 ghost use Rattle.limits.specs.Limits.{maxDefinitions};
-ghost use Rattle.context.specs.Store.{store};
 ghost use Rattle.callees.specs.Walk.{Sized};
 ghost use Rattle.strings.specs.Read.{stringAt, symbolOf};
 ghost use Rattle.unfolding.specs.CalleeTerm.{maxLinks};
@@ -24,6 +23,9 @@ ghost use Rattle.templates.specs.Highest.{highestNumber, numberCalled};
 ghost use Rattle.templates.specs.Made.{TemplateMade};
 ghost use Rattle.templates.specs.Shaped.{firstStandIn, shapeCount, textBytes};
 ghost use Rattle.templates.specs.Taking.{AllTaken, OwnTaken, StepTaken, TakenOut, workBytes};
+ghost use Rattle.store.specs.Store.{held};
+use store::Lent;
+use store::Store;
 
 fn greater(a: usize, b: usize) -> usize
     ensures { λ r. ⌜ r ≡ max a b ⌝ }
@@ -68,7 +70,7 @@ fn highest_number(s: &[u8], n: usize) -> usize
 }
 
 // Whether there was room, the string's length, and one more than the highest number that it calls.
-pub struct Left {
+pub struct Unfolded {
     pub fits: bool,
     pub len: usize,
     pub highest: usize,
@@ -77,19 +79,12 @@ pub struct Left {
 // Stand-in m taken out of the string in `work`, which is `len` bytes long.
 fn take_out(
     file: &[u8],
-    refs: &[u16],
-    names: &[u16],
-    facts: &[u16],
-    contexts: &[u16],
-    orders: &[u16],
-    heads: &[u16],
-    declared: &[u16],
-    n: usize,
+    refs: &[u16; Lent::REFS],
+    store: &[u16; Store::LENGTH],
     numbers: &[u16],
     currents: &[u16],
     outers: &[u16],
     along: &[u32],
-    k: usize,
     m: usize,
     text: &mut [u8],
     filled: &mut [u8],
@@ -97,18 +92,14 @@ fn take_out(
     len: usize,
 ) -> Filled
     requires { ⌜ Sized (now numbers) (now currents) (now outers) × (length (now text) ≡ textBytes) × (length (now filled) ≡ workBytes) × (length (now work) ≡ workBytes) × (len ≤ workBytes) × (firstStandIn ≤ m) × (m < shapeCount) ⌝ }
-    ensures { λ r. ⌜ TakenOut (now (file .entry)) (now (refs .entry)) (store (now (names .entry)) (now (facts .entry)) (now (contexts .entry)) (now (orders .entry)) (now (heads .entry))) (now (declared .entry)) n k m (now (numbers .entry)) (now (currents .entry)) (now (outers .entry)) (now (along .entry)) (now (work .entry)) len (now (work .exit)) r ⌝ }
+    ensures { λ r. ⌜ TakenOut (now (file .entry)) (now (refs .entry)) (held (now (store .entry))) (held (now (store .entry)) .declared) m (now (numbers .entry)) (now (currents .entry)) (now (outers .entry)) (now (along .entry)) (now (work .entry)) len (now (work .exit)) r ⌝ }
 {
     let l = (m - Limits::DEFINITIONS) / Limits::DECLARATIONS - 1;
     let e = (m - Limits::DEFINITIONS) % Limits::DECLARATIONS;
     let t = standin_string(
         file,
         refs,
-        names,
-        facts,
-        contexts,
-        heads,
-        declared,
+        store,
         numbers,
         currents,
         outers,
@@ -132,43 +123,29 @@ fn goes_on(fits: bool, next: usize, h: usize) -> bool
 // The highest number that the string calls, one less than h, taken out of it.
 fn take_step(
     file: &[u8],
-    refs: &[u16],
-    names: &[u16],
-    facts: &[u16],
-    contexts: &[u16],
-    orders: &[u16],
-    heads: &[u16],
-    declared: &[u16],
-    n: usize,
+    refs: &[u16; Lent::REFS],
+    store: &[u16; Store::LENGTH],
     numbers: &[u16],
     currents: &[u16],
     outers: &[u16],
     along: &[u32],
-    k: usize,
     h: usize,
     text: &mut [u8],
     filled: &mut [u8],
     work: &mut [u8],
     len: usize,
-) -> Left
+) -> Unfolded
     requires { ⌜ Sized (now numbers) (now currents) (now outers) × (length (now text) ≡ textBytes) × (length (now filled) ≡ workBytes) × (length (now work) ≡ workBytes) × (len ≤ workBytes) × (firstStandIn < h) × (h ≤ shapeCount) ⌝ }
-    ensures { λ r. ⌜ StepTaken (now (file .entry)) (now (refs .entry)) (store (now (names .entry)) (now (facts .entry)) (now (contexts .entry)) (now (orders .entry)) (now (heads .entry))) (now (declared .entry)) n k h (now (numbers .entry)) (now (currents .entry)) (now (outers .entry)) (now (along .entry)) (now (work .entry)) len (now (work .exit)) r ⌝ }
+    ensures { λ r. ⌜ StepTaken (now (file .entry)) (now (refs .entry)) (held (now (store .entry))) (held (now (store .entry)) .declared) h (now (numbers .entry)) (now (currents .entry)) (now (outers .entry)) (now (along .entry)) (now (work .entry)) len (now (work .exit)) r ⌝ }
 {
     let f = take_out(
         file,
         refs,
-        names,
-        facts,
-        contexts,
-        orders,
-        heads,
-        declared,
-        n,
+        store,
         numbers,
         currents,
         outers,
         along,
-        k,
         h - 1,
         text,
         filled,
@@ -177,7 +154,7 @@ fn take_step(
     );
     let highest = highest_number(work, f.len);
     let fits = goes_on(f.fits, highest, h);
-    Left {
+    Unfolded {
         fits,
         len: f.len,
         highest,
@@ -187,26 +164,19 @@ fn take_step(
 // All stand-ins taken out of the string in `work`, which is `len` bytes long.
 fn take_all(
     file: &[u8],
-    refs: &[u16],
-    names: &[u16],
-    facts: &[u16],
-    contexts: &[u16],
-    orders: &[u16],
-    heads: &[u16],
-    declared: &[u16],
-    n: usize,
+    refs: &[u16; Lent::REFS],
+    store: &[u16; Store::LENGTH],
     numbers: &[u16],
     currents: &[u16],
     outers: &[u16],
     along: &[u32],
-    k: usize,
     text: &mut [u8],
     filled: &mut [u8],
     work: &mut [u8],
     len: usize,
 ) -> Filled
     requires { ⌜ Sized (now numbers) (now currents) (now outers) × (length (now text) ≡ textBytes) × (length (now filled) ≡ workBytes) × (length (now work) ≡ workBytes) × (len ≤ workBytes) ⌝ }
-    ensures { λ r. ⌜ AllTaken (now (file .entry)) (now (refs .entry)) (store (now (names .entry)) (now (facts .entry)) (now (contexts .entry)) (now (orders .entry)) (now (heads .entry))) (now (declared .entry)) n k (now (numbers .entry)) (now (currents .entry)) (now (outers .entry)) (now (along .entry)) (now (work .entry)) len (now (work .exit)) r ⌝ }
+    ensures { λ r. ⌜ AllTaken (now (file .entry)) (now (refs .entry)) (held (now (store .entry))) (held (now (store .entry)) .declared) (now (numbers .entry)) (now (currents .entry)) (now (outers .entry)) (now (along .entry)) (now (work .entry)) len (now (work .exit)) r ⌝ }
 {
     let mut q = len;
     let mut h = highest_number(work, len);
@@ -214,18 +184,11 @@ fn take_all(
         let t = take_step(
             file,
             refs,
-            names,
-            facts,
-            contexts,
-            orders,
-            heads,
-            declared,
-            n,
+            store,
             numbers,
             currents,
             outers,
             along,
-            k,
             h,
             text,
             filled,
@@ -248,14 +211,8 @@ fn take_all(
 // The text of the definition whose chain the arrays hold, k links long, with all stand-ins taken out.
 fn own_template(
     file: &[u8],
-    refs: &[u16],
-    names: &[u16],
-    facts: &[u16],
-    contexts: &[u16],
-    orders: &[u16],
-    heads: &[u16],
-    declared: &[u16],
-    n: usize,
+    refs: &[u16; Lent::REFS],
+    store: &[u16; Store::LENGTH],
     numbers: &[u16],
     currents: &[u16],
     outers: &[u16],
@@ -266,37 +223,18 @@ fn own_template(
     work: &mut [u8],
 ) -> Filled
     requires { ⌜ Sized (now numbers) (now currents) (now outers) × (length (now text) ≡ textBytes) × (length (now filled) ≡ workBytes) × (length (now work) ≡ workBytes) × (k ≤ maxLinks) ⌝ }
-    ensures { λ r. ⌜ OwnTaken (now (file .entry)) (now (refs .entry)) (store (now (names .entry)) (now (facts .entry)) (now (contexts .entry)) (now (orders .entry)) (now (heads .entry))) (now (declared .entry)) n k (now (numbers .entry)) (now (currents .entry)) (now (outers .entry)) (now (along .entry)) (now (work .exit)) r ⌝ }
+    ensures { λ r. ⌜ OwnTaken (now (file .entry)) (now (refs .entry)) (held (now (store .entry))) (held (now (store .entry)) .declared) k (now (numbers .entry)) (now (currents .entry)) (now (outers .entry)) (now (along .entry)) (now (work .exit)) r ⌝ }
 {
-    let t = own_string(
-        file,
-        refs,
-        names,
-        facts,
-        declared,
-        numbers,
-        currents,
-        outers,
-        along,
-        k,
-        work,
-    );
+    let t = own_string(file, refs, store, numbers, currents, outers, along, k, work);
     if t.len <= work.len() {
         return take_all(
             file,
             refs,
-            names,
-            facts,
-            contexts,
-            orders,
-            heads,
-            declared,
-            n,
+            store,
             numbers,
             currents,
             outers,
             along,
-            k,
             text,
             filled,
             work,
@@ -312,13 +250,8 @@ fn own_template(
 // The template of definition d, in arrays lent for it.
 fn make_template(
     file: &[u8],
-    refs: &[u16],
-    names: &[u16],
-    facts: &[u16],
-    contexts: &[u16],
-    orders: &[u16],
-    heads: &[u16],
-    declared: &[u16],
+    refs: &[u16; Lent::REFS],
+    store: &[u16; Store::LENGTH],
     n: usize,
     shapes: &[u32],
     d: usize,
@@ -331,17 +264,12 @@ fn make_template(
     work: &mut [u8],
 ) -> Filled
     requires { ⌜ Sized (now numbers) (now currents) (now outers) × (length (now text) ≡ textBytes) × (length (now along) ≡ shapeCount) × (length (now shapes) ≡ maxDefinitions) × (d < maxDefinitions) × (length (now filled) ≡ workBytes) × (length (now work) ≡ workBytes) ⌝ }
-    ensures { λ r. ⌜ TemplateMade (now (file .entry)) (now (refs .entry)) (store (now (names .entry)) (now (facts .entry)) (now (contexts .entry)) (now (orders .entry)) (now (heads .entry))) (now (declared .entry)) n d (now (shapes .entry)) (now (work .exit)) r ⌝ }
+    ensures { λ r. ⌜ TemplateMade (now (file .entry)) (now (refs .entry)) (held (now (store .entry))) (held (now (store .entry)) .declared) n d (now (shapes .entry)) (now (work .exit)) r ⌝ }
 {
     let k = prepare(
         file,
         refs,
-        names,
-        facts,
-        contexts,
-        orders,
-        heads,
-        declared,
+        store,
         n,
         shapes,
         d,
@@ -354,13 +282,7 @@ fn make_template(
     own_template(
         file,
         refs,
-        names,
-        facts,
-        contexts,
-        orders,
-        heads,
-        declared,
-        n,
+        store,
         numbers,
         currents,
         outers,
@@ -375,13 +297,8 @@ fn make_template(
 // The template of definition d: the shapes of the definitions are given.
 pub fn template(
     file: &[u8],
-    refs: &[u16],
-    names: &[u16],
-    facts: &[u16],
-    contexts: &[u16],
-    orders: &[u16],
-    heads: &[u16],
-    declared: &[u16],
+    refs: &[u16; Lent::REFS],
+    store: &[u16; Store::LENGTH],
     n: usize,
     shapes: &[u32],
     d: usize,
@@ -389,22 +306,17 @@ pub fn template(
     filled: &mut [u8],
 ) -> Filled
     requires { ⌜ (length (now shapes) ≡ maxDefinitions) × (d < maxDefinitions) × (length (now work) ≡ workBytes) × (length (now filled) ≡ workBytes) ⌝ }
-    ensures { λ r. ⌜ TemplateMade (now (file .entry)) (now (refs .entry)) (store (now (names .entry)) (now (facts .entry)) (now (contexts .entry)) (now (orders .entry)) (now (heads .entry))) (now (declared .entry)) n d (now (shapes .entry)) (now (work .exit)) r ⌝ }
+    ensures { λ r. ⌜ TemplateMade (now (file .entry)) (now (refs .entry)) (held (now (store .entry))) (held (now (store .entry)) .declared) n d (now (shapes .entry)) (now (work .exit)) r ⌝ }
 {
-    let mut numbers = [0u16; Room::LEVELS * Limits::DEFINITIONS];
-    let mut currents = [0u16; Room::LEVELS];
-    let mut outers = [0u16; Room::LEVELS];
-    let mut text = [0u8; Room::TEXT];
-    let mut along = [0u32; Room::SHAPES];
+    let mut numbers = [0u16; ChainRoom::LEVELS * Limits::DEFINITIONS];
+    let mut currents = [0u16; ChainRoom::LEVELS];
+    let mut outers = [0u16; ChainRoom::LEVELS];
+    let mut text = [0u8; ChainRoom::TEXT];
+    let mut along = [0u32; ChainRoom::SHAPES];
     make_template(
         file,
         refs,
-        names,
-        facts,
-        contexts,
-        orders,
-        heads,
-        declared,
+        store,
         n,
         shapes,
         d,

@@ -1,5 +1,5 @@
 // The shapes of the stand-ins along a chain, and of all definitions, each worked out from the string of its text.
-use crate::Room;
+use crate::ChainRoom;
 use crate::alike::note_firsts;
 use callees::chain::enter_chain;
 use callees::strings::own_string;
@@ -13,11 +13,13 @@ ghost use mathlib.Core.Path.{_≡_};
 ghost use Prim.Native.Nat.{_≤_, _<_};
 ghost use lib.ListN.{length};
 ghost use Rattle.limits.specs.Limits.{maxDefinitions};
-ghost use Rattle.context.specs.Store.{store};
 ghost use Rattle.callees.specs.Walk.{Sized};
 ghost use Rattle.unfolding.specs.CalleeTerm.{maxLinks};
 ghost use Rattle.templates.specs.Alike.{FirstsNoted};
 ghost use Rattle.templates.specs.Shaped.{Begun, Cleared, DefinitionStored, DefinitionsShaped, Kept, NextShape, OwnShape, Prepared, StandInShape, StandInsStored, firstStandIn, shapeCount, textBytes};
+ghost use Rattle.store.specs.Store.{held};
+use store::Lent;
+use store::Store;
 
 fn kept_shape(h: u32) -> u32
     ensures { λ r. ⌜ Kept h r ⌝ }
@@ -31,7 +33,7 @@ fn begin_shapes(shapes: &[u32], along: &mut [u32])
     ensures { λ r. ⌜ Begun (now (shapes .entry)) (now (along .exit)) ⌝ }
 {
     let mut i: usize = 0;
-    while i < Room::SHAPES {
+    while i < ChainRoom::SHAPES {
         along[i] = shape_at(shapes, i);
         i += 1;
     }
@@ -40,14 +42,8 @@ fn begin_shapes(shapes: &[u32], along: &mut [u32])
 // The shape of stand-in m.
 fn standin_shape(
     file: &[u8],
-    refs: &[u16],
-    names: &[u16],
-    facts: &[u16],
-    contexts: &[u16],
-    orders: &[u16],
-    heads: &[u16],
-    declared: &[u16],
-    n: usize,
+    refs: &[u16; Lent::REFS],
+    store: &[u16; Store::LENGTH],
     numbers: &[u16],
     currents: &[u16],
     outers: &[u16],
@@ -56,18 +52,14 @@ fn standin_shape(
     m: usize,
 ) -> u32
     requires { ⌜ Sized (now numbers) (now currents) (now outers) × (length (now text) ≡ textBytes) × (firstStandIn ≤ m) × (m < shapeCount) ⌝ }
-    ensures { λ r. ⌜ StandInShape (now (file .entry)) (now (refs .entry)) (store (now (names .entry)) (now (facts .entry)) (now (contexts .entry)) (now (orders .entry)) (now (heads .entry))) (now (declared .entry)) n m (now (numbers .entry)) (now (currents .entry)) (now (outers .entry)) (now (along .entry)) r ⌝ }
+    ensures { λ r. ⌜ StandInShape (now (file .entry)) (now (refs .entry)) (held (now (store .entry))) (held (now (store .entry)) .declared) m (now (numbers .entry)) (now (currents .entry)) (now (outers .entry)) (now (along .entry)) r ⌝ }
 {
     let l = (m - Limits::DEFINITIONS) / Limits::DECLARATIONS - 1;
     let e = (m - Limits::DEFINITIONS) % Limits::DECLARATIONS;
     let t = standin_string(
         file,
         refs,
-        names,
-        facts,
-        contexts,
-        heads,
-        declared,
+        store,
         numbers,
         currents,
         outers,
@@ -82,13 +74,8 @@ fn standin_shape(
 // The shape of stand-in m, those before it being there: it is that of an earlier one of the same level whose declaration is like its own.
 fn next_shape(
     file: &[u8],
-    refs: &[u16],
-    names: &[u16],
-    facts: &[u16],
-    contexts: &[u16],
-    orders: &[u16],
-    heads: &[u16],
-    declared: &[u16],
+    refs: &[u16; Lent::REFS],
+    store: &[u16; Store::LENGTH],
     n: usize,
     firsts: &[u8],
     numbers: &[u16],
@@ -98,8 +85,8 @@ fn next_shape(
     along: &[u32],
     m: usize,
 ) -> u32
-    requires { ⌜ FirstsNoted (now names) (now facts) (now declared) (now firsts) × Sized (now numbers) (now currents) (now outers) × (length (now text) ≡ textBytes) × (length (now along) ≡ shapeCount) × (firstStandIn ≤ m) × (m < shapeCount) ⌝ }
-    ensures { λ r. ⌜ NextShape (now (file .entry)) (now (refs .entry)) (store (now (names .entry)) (now (facts .entry)) (now (contexts .entry)) (now (orders .entry)) (now (heads .entry))) (now (declared .entry)) n m (now (numbers .entry)) (now (currents .entry)) (now (outers .entry)) (now (along .entry)) r ⌝ }
+    requires { ⌜ FirstsNoted (held (now store) .names) (held (now store) .facts) (held (now store) .declared) (now firsts) × Sized (now numbers) (now currents) (now outers) × (length (now text) ≡ textBytes) × (length (now along) ≡ shapeCount) × (firstStandIn ≤ m) × (m < shapeCount) ⌝ }
+    ensures { λ r. ⌜ NextShape (now (file .entry)) (now (refs .entry)) (held (now (store .entry))) (held (now (store .entry)) .declared) n m (now (numbers .entry)) (now (currents .entry)) (now (outers .entry)) (now (along .entry)) r ⌝ }
 {
     let e = (m - Limits::DEFINITIONS) % Limits::DECLARATIONS;
     if n <= e {
@@ -109,35 +96,14 @@ fn next_shape(
     if f < e {
         return shape_at(along, m - e + f);
     }
-    standin_shape(
-        file,
-        refs,
-        names,
-        facts,
-        contexts,
-        orders,
-        heads,
-        declared,
-        n,
-        numbers,
-        currents,
-        outers,
-        text,
-        along,
-        m,
-    )
+    standin_shape(file, refs, store, numbers, currents, outers, text, along, m)
 }
 
 // The shapes of the stand-ins of k levels.
 fn shape_levels(
     file: &[u8],
-    refs: &[u16],
-    names: &[u16],
-    facts: &[u16],
-    contexts: &[u16],
-    orders: &[u16],
-    heads: &[u16],
-    declared: &[u16],
+    refs: &[u16; Lent::REFS],
+    store: &[u16; Store::LENGTH],
     n: usize,
     firsts: &[u8],
     numbers: &[u16],
@@ -147,8 +113,8 @@ fn shape_levels(
     along: &mut [u32],
     k: usize,
 )
-    requires { ⌜ FirstsNoted (now names) (now facts) (now declared) (now firsts) × Sized (now numbers) (now currents) (now outers) × (length (now text) ≡ textBytes) × (length (now along) ≡ shapeCount) × (k ≤ maxLinks) ⌝ }
-    ensures { λ r. ⌜ StandInsStored (now (file .entry)) (now (refs .entry)) (store (now (names .entry)) (now (facts .entry)) (now (contexts .entry)) (now (orders .entry)) (now (heads .entry))) (now (declared .entry)) n k (now (numbers .entry)) (now (currents .entry)) (now (outers .entry)) (now (along .entry)) (now (along .exit)) ⌝ }
+    requires { ⌜ FirstsNoted (held (now store) .names) (held (now store) .facts) (held (now store) .declared) (now firsts) × Sized (now numbers) (now currents) (now outers) × (length (now text) ≡ textBytes) × (length (now along) ≡ shapeCount) × (k ≤ maxLinks) ⌝ }
+    ensures { λ r. ⌜ StandInsStored (now (file .entry)) (now (refs .entry)) (held (now (store .entry))) (held (now (store .entry)) .declared) n k (now (numbers .entry)) (now (currents .entry)) (now (outers .entry)) (now (along .entry)) (now (along .exit)) ⌝ }
 {
     let end = Limits::DEFINITIONS + Limits::DECLARATIONS * (k + 1);
     let mut m: usize = Limits::DEFINITIONS + Limits::DECLARATIONS;
@@ -156,12 +122,7 @@ fn shape_levels(
         let h = next_shape(
             file,
             refs,
-            names,
-            facts,
-            contexts,
-            orders,
-            heads,
-            declared,
+            store,
             n,
             firsts,
             numbers,
@@ -179,13 +140,8 @@ fn shape_levels(
 // The same, the declarations that are alike being worked out; without any level they are not asked for.
 fn shape_standins(
     file: &[u8],
-    refs: &[u16],
-    names: &[u16],
-    facts: &[u16],
-    contexts: &[u16],
-    orders: &[u16],
-    heads: &[u16],
-    declared: &[u16],
+    refs: &[u16; Lent::REFS],
+    store: &[u16; Store::LENGTH],
     n: usize,
     numbers: &[u16],
     currents: &[u16],
@@ -195,22 +151,17 @@ fn shape_standins(
     k: usize,
 )
     requires { ⌜ Sized (now numbers) (now currents) (now outers) × (length (now text) ≡ textBytes) × (length (now along) ≡ shapeCount) × (k ≤ maxLinks) ⌝ }
-    ensures { λ r. ⌜ StandInsStored (now (file .entry)) (now (refs .entry)) (store (now (names .entry)) (now (facts .entry)) (now (contexts .entry)) (now (orders .entry)) (now (heads .entry))) (now (declared .entry)) n k (now (numbers .entry)) (now (currents .entry)) (now (outers .entry)) (now (along .entry)) (now (along .exit)) ⌝ }
+    ensures { λ r. ⌜ StandInsStored (now (file .entry)) (now (refs .entry)) (held (now (store .entry))) (held (now (store .entry)) .declared) n k (now (numbers .entry)) (now (currents .entry)) (now (outers .entry)) (now (along .entry)) (now (along .exit)) ⌝ }
 {
     if k == 0 {
         return;
     }
     let mut firsts = [0u8; Limits::DECLARATIONS];
-    note_firsts(names, facts, declared, &mut firsts);
+    note_firsts(store, &mut firsts);
     shape_levels(
         file,
         refs,
-        names,
-        facts,
-        contexts,
-        orders,
-        heads,
-        declared,
+        store,
         n,
         &firsts,
         numbers,
@@ -225,13 +176,8 @@ fn shape_standins(
 // The chain of definition d, with the shapes along it; how many links it has.
 pub fn prepare(
     file: &[u8],
-    refs: &[u16],
-    names: &[u16],
-    facts: &[u16],
-    contexts: &[u16],
-    orders: &[u16],
-    heads: &[u16],
-    declared: &[u16],
+    refs: &[u16; Lent::REFS],
+    store: &[u16; Store::LENGTH],
     n: usize,
     shapes: &[u32],
     d: usize,
@@ -242,19 +188,14 @@ pub fn prepare(
     along: &mut [u32],
 ) -> usize
     requires { ⌜ Sized (now numbers) (now currents) (now outers) × (length (now text) ≡ textBytes) × (length (now along) ≡ shapeCount) × (length (now shapes) ≡ maxDefinitions) × (d < maxDefinitions) ⌝ }
-    ensures { λ r. ⌜ Prepared (now (file .entry)) (now (refs .entry)) (store (now (names .entry)) (now (facts .entry)) (now (contexts .entry)) (now (orders .entry)) (now (heads .entry))) (now (declared .entry)) n d (now (shapes .entry)) r (now (numbers .exit)) (now (currents .exit)) (now (outers .exit)) (now (along .exit)) ⌝ }
+    ensures { λ r. ⌜ Prepared (now (file .entry)) (now (refs .entry)) (held (now (store .entry))) (held (now (store .entry)) .declared) n d (now (shapes .entry)) r (now (numbers .exit)) (now (currents .exit)) (now (outers .exit)) (now (along .exit)) ⌝ }
 {
     begin_shapes(shapes, along);
-    let k = enter_chain(facts, orders, heads, d, numbers, currents, outers);
+    let k = enter_chain(store, d, numbers, currents, outers);
     shape_standins(
         file,
         refs,
-        names,
-        facts,
-        contexts,
-        orders,
-        heads,
-        declared,
+        store,
         n,
         numbers,
         currents,
@@ -269,14 +210,8 @@ pub fn prepare(
 // The shape of the definition whose chain the arrays hold.
 fn own_shape(
     file: &[u8],
-    refs: &[u16],
-    names: &[u16],
-    facts: &[u16],
-    contexts: &[u16],
-    orders: &[u16],
-    heads: &[u16],
-    declared: &[u16],
-    n: usize,
+    refs: &[u16; Lent::REFS],
+    store: &[u16; Store::LENGTH],
     numbers: &[u16],
     currents: &[u16],
     outers: &[u16],
@@ -285,34 +220,17 @@ fn own_shape(
     k: usize,
 ) -> u32
     requires { ⌜ Sized (now numbers) (now currents) (now outers) × (length (now text) ≡ textBytes) × (k ≤ maxLinks) ⌝ }
-    ensures { λ r. ⌜ OwnShape (now (file .entry)) (now (refs .entry)) (store (now (names .entry)) (now (facts .entry)) (now (contexts .entry)) (now (orders .entry)) (now (heads .entry))) (now (declared .entry)) n k (now (numbers .entry)) (now (currents .entry)) (now (outers .entry)) (now (along .entry)) r ⌝ }
+    ensures { λ r. ⌜ OwnShape (now (file .entry)) (now (refs .entry)) (held (now (store .entry))) (held (now (store .entry)) .declared) k (now (numbers .entry)) (now (currents .entry)) (now (outers .entry)) (now (along .entry)) r ⌝ }
 {
-    let t = own_string(
-        file,
-        refs,
-        names,
-        facts,
-        declared,
-        numbers,
-        currents,
-        outers,
-        along,
-        k,
-        text,
-    );
+    let t = own_string(file, refs, store, numbers, currents, outers, along, k, text);
     kept_shape(shape_of(text, t.len))
 }
 
 // The shape of definition d, by those of the definitions before it.
 fn shape_definition(
     file: &[u8],
-    refs: &[u16],
-    names: &[u16],
-    facts: &[u16],
-    contexts: &[u16],
-    orders: &[u16],
-    heads: &[u16],
-    declared: &[u16],
+    refs: &[u16; Lent::REFS],
+    store: &[u16; Store::LENGTH],
     n: usize,
     d: usize,
     numbers: &mut [u16],
@@ -323,17 +241,12 @@ fn shape_definition(
     shapes: &mut [u32],
 )
     requires { ⌜ Sized (now numbers) (now currents) (now outers) × (length (now text) ≡ textBytes) × (length (now along) ≡ shapeCount) × (length (now shapes) ≡ maxDefinitions) × (d < maxDefinitions) ⌝ }
-    ensures { λ r. ⌜ DefinitionStored (now (file .entry)) (now (refs .entry)) (store (now (names .entry)) (now (facts .entry)) (now (contexts .entry)) (now (orders .entry)) (now (heads .entry))) (now (declared .entry)) n d (now (shapes .entry)) (now (shapes .exit)) ⌝ }
+    ensures { λ r. ⌜ DefinitionStored (now (file .entry)) (now (refs .entry)) (held (now (store .entry))) (held (now (store .entry)) .declared) n d (now (shapes .entry)) (now (shapes .exit)) ⌝ }
 {
     let k = prepare(
         file,
         refs,
-        names,
-        facts,
-        contexts,
-        orders,
-        heads,
-        declared,
+        store,
         n,
         shapes,
         d,
@@ -343,23 +256,7 @@ fn shape_definition(
         text,
         along,
     );
-    let h = own_shape(
-        file,
-        refs,
-        names,
-        facts,
-        contexts,
-        orders,
-        heads,
-        declared,
-        n,
-        numbers,
-        currents,
-        outers,
-        text,
-        along,
-        k,
-    );
+    let h = own_shape(file, refs, store, numbers, currents, outers, text, along, k);
     shapes[d] = h;
 }
 
@@ -377,13 +274,8 @@ fn clear_shapes(shapes: &mut [u32])
 // The shapes of the first definitions, so many, in arrays lent for it.
 fn shape_all(
     file: &[u8],
-    refs: &[u16],
-    names: &[u16],
-    facts: &[u16],
-    contexts: &[u16],
-    orders: &[u16],
-    heads: &[u16],
-    declared: &[u16],
+    refs: &[u16; Lent::REFS],
+    store: &[u16; Store::LENGTH],
     n: usize,
     count: usize,
     numbers: &mut [u16],
@@ -394,7 +286,7 @@ fn shape_all(
     shapes: &mut [u32],
 )
     requires { ⌜ Sized (now numbers) (now currents) (now outers) × (length (now text) ≡ textBytes) × (length (now along) ≡ shapeCount) × (length (now shapes) ≡ maxDefinitions) × (count ≤ maxDefinitions) ⌝ }
-    ensures { λ r. ⌜ DefinitionsShaped (now (file .entry)) (now (refs .entry)) (store (now (names .entry)) (now (facts .entry)) (now (contexts .entry)) (now (orders .entry)) (now (heads .entry))) (now (declared .entry)) n count (now (shapes .exit)) ⌝ }
+    ensures { λ r. ⌜ DefinitionsShaped (now (file .entry)) (now (refs .entry)) (held (now (store .entry))) (held (now (store .entry)) .declared) n count (now (shapes .exit)) ⌝ }
 {
     clear_shapes(shapes);
     let mut d: usize = 0;
@@ -402,12 +294,7 @@ fn shape_all(
         shape_definition(
             file,
             refs,
-            names,
-            facts,
-            contexts,
-            orders,
-            heads,
-            declared,
+            store,
             n,
             d,
             numbers,
@@ -424,34 +311,24 @@ fn shape_all(
 // The shapes of the first definitions, so many.
 pub fn shape_definitions(
     file: &[u8],
-    refs: &[u16],
-    names: &[u16],
-    facts: &[u16],
-    contexts: &[u16],
-    orders: &[u16],
-    heads: &[u16],
-    declared: &[u16],
+    refs: &[u16; Lent::REFS],
+    store: &[u16; Store::LENGTH],
     n: usize,
     count: usize,
     shapes: &mut [u32],
 )
     requires { ⌜ (length (now shapes) ≡ maxDefinitions) × (count ≤ maxDefinitions) ⌝ }
-    ensures { λ r. ⌜ DefinitionsShaped (now (file .entry)) (now (refs .entry)) (store (now (names .entry)) (now (facts .entry)) (now (contexts .entry)) (now (orders .entry)) (now (heads .entry))) (now (declared .entry)) n count (now (shapes .exit)) ⌝ }
+    ensures { λ r. ⌜ DefinitionsShaped (now (file .entry)) (now (refs .entry)) (held (now (store .entry))) (held (now (store .entry)) .declared) n count (now (shapes .exit)) ⌝ }
 {
-    let mut numbers = [0u16; Room::LEVELS * Limits::DEFINITIONS];
-    let mut currents = [0u16; Room::LEVELS];
-    let mut outers = [0u16; Room::LEVELS];
-    let mut text = [0u8; Room::TEXT];
-    let mut along = [0u32; Room::SHAPES];
+    let mut numbers = [0u16; ChainRoom::LEVELS * Limits::DEFINITIONS];
+    let mut currents = [0u16; ChainRoom::LEVELS];
+    let mut outers = [0u16; ChainRoom::LEVELS];
+    let mut text = [0u8; ChainRoom::TEXT];
+    let mut along = [0u32; ChainRoom::SHAPES];
     shape_all(
         file,
         refs,
-        names,
-        facts,
-        contexts,
-        orders,
-        heads,
-        declared,
+        store,
         n,
         count,
         &mut numbers,

@@ -11,7 +11,7 @@ use Rattle.symbols.specs.Spell.{shapeOf, spell}
 use Rattle.theory.specs.Term.{kindArity}
 use Rattle.rules.specs.State.{State, paramsOf}
 use Rattle.texts.specs.Text.{Declarations, noDeclaration}
-use Rattle.context.specs.Store.{Store}
+use Rattle.store.specs.Store.{Store}
 use Rattle.context.specs.declared.Counts.{Counts}
 use Rattle.worlds.specs.Rows.{Row, worldOf}
 use Rattle.worlds.specs.World.{World}

@@ -13,7 +13,7 @@ use Rattle.theory.specs.Term.{Kind, Reading, Term, kindArity}
 use Rattle.rules.specs.State.{State, paramsOf}
 use Rattle.tokens.specs.Expr.{Found}
 use Rattle.texts.specs.Text.{Declarations, noDeclaration}
-use Rattle.context.specs.Store.{Store, firstAt}
+use Rattle.store.specs.Store.{Store, firstAt}
 use Rattle.context.specs.declared.Counts.{Counts}
 use Rattle.worlds.proofs.Uses.{uses-more}
 use Rattle.worlds.specs.Rows.{Row, worldOf}

@@ -15,7 +15,8 @@ use Rattle.theory.specs.Term.{Arities, Kind, kindArity}
 use Rattle.rules.specs.State.{State, meanings, templatesOf}
 use Rattle.laws.proofs.Sound.{all-formed}
 use Rattle.texts.specs.Text.{Declarations}
-use Rattle.context.specs.Store.{Store, fieldCode, firstAt, instanceKind, kindAt, linkAt, orderOf, sourceAt}
+use Rattle.context.specs.Entries.{fieldCode, instanceKind, orderOf}
+use Rattle.store.specs.Store.{Store, firstAt, kindAt, linkAt, sourceAt}
 use Rattle.context.specs.declared.Counts.{Counts}
 use Rattle.worlds.proofs.File.{world-params}
 use Rattle.worlds.proofs.InWorld.{Comes, LinkOk}
@@ -33,7 +34,7 @@ use Rattle.chains.specs.Ready.{Ready}
 use Rattle.chains.specs.Results.{Itselves}
 use Rattle.chains.specs.Walk.{NumbersEntered, codeAt, linkFits, outerAfter, siteOf, stepFits}
 use Rattle.chains.proofs.Along.{has-link}
-use Rattle.chains.proofs.Knowing.{DefinedIn, Placed}
+use Rattle.chains.proofs.Knowing.{DefinedIn, FormedIn}
 use Rattle.chains.proofs.Linking.{Within, within-fits}
 use Rattle.chains.proofs.Places.{InModule, brought-in, comes-link, declared-link, params-append, uses-module}
 use Rattle.unfolding.specs.AtLevel.{AtLevel}
@@ -137,7 +138,7 @@ module _ (file refs : List ℕ) (v : Store) (declared : List ℕ) (n D : ℕ) (c
           let e : paramsIn (worldOf rs D) ≡ paramsIn (worldOf rs (t .from) ++ (k ∷ w)) = ap paramsIn further in
           omega (arith, e, params-append (worldOf rs (t .from)) (k ∷ w), world-params s rs (ready .worlds) (ready .sound) D inside, ready .params D inside)
 
-      pub placed : (j : Kind) (x : ℕ) → DeclaredBy (t .link) j x → Placed ar (here .world) (t .link .params + kindArity j) (t .link .substitutes j x)
+      pub placed : (j : Kind) (x : ℕ) → DeclaredBy (t .link) j x → FormedIn ar (here .world) (t .link .params + kindArity j) (t .link .substitutes j x)
       placed j x e =
           record {
             formed =

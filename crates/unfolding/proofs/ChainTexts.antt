@@ -19,7 +19,7 @@ use Rattle.laws.proofs.Invariant.{arity-known}
 use Rattle.tokens.specs.Expr.{Expr, exprAt, found}
 use Rattle.texts.specs.Text.{Declarations, noDeclaration, refHead, shown}
 use Rattle.text_levels.proofs.OwnWorld.{Tokens, tokens-found}
-use Rattle.context.specs.Store.{Store, firstAt}
+use Rattle.store.specs.Store.{Store, firstAt}
 use Rattle.context.specs.declared.Counts.{Counts}
 use Rattle.worlds.proofs.File.{MeansBelow, definition-in-world, is-text, substitutes-use-below, text-uses-below, world-params}
 use Rattle.worlds.proofs.Settled.{Settled, settled}
@@ -37,7 +37,7 @@ use Rattle.standing.specs.Chained.{Own, Through}
 use Rattle.standing.specs.Shown.{StandsFor, TextShown}
 use Rattle.chains.specs.Ready.{Ready}
 use Rattle.chains.specs.Walk.{codeAt, outerAfter, siteOf, stepFits}
-use Rattle.chains.proofs.Knowing.{DefinedIn, NamedIn, Placed}
+use Rattle.chains.proofs.Knowing.{DefinedIn, FormedIn, NamedIn}
 use Rattle.chains.proofs.Naming.{resolved, text-names}
 use Rattle.chains.proofs.Places.{InModule, uses-module}
 use Rattle.unfolding.specs.AtLevel.{AtLevel}
@@ -199,7 +199,7 @@ module _ (file refs : List ℕ) (v : Store) (declared : List ℕ) (n D : ℕ) (c
       abbrev own-params : ℕ
       own-params = ownParams (original s rs D)
 
-      text-placed : Placed ar W own-params (textOf s rs D)
+      text-placed : FormedIn ar W own-params (textOf s rs D)
       text-placed =
           let x = is-text s rs (ready .worlds) (ready .sound) D (inside file refs v declared n D c s rs decls end ready there) in
           let ok = lawful file refs v declared n D c s rs decls end ready there in
@@ -287,7 +287,7 @@ module _ (file refs : List ℕ) (v : Store) (declared : List ℕ) (n D : ℕ) (c
         few-entry : e < maxDeclarations
         few-entry = omega (arith, named .0, few-declarations)
 
-        spot : Placed ar w m u
+        spot : FormedIn ar w m u
         spot = placed file refs v declared n D c s rs decls end ready there l cur outer numbers here t kind x (named .1)
 
         spot-uses : Uses (Below w) u

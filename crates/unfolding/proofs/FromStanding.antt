@@ -6,7 +6,7 @@ use Rattle.limits.specs.Limits.{maxArity, maxDeclarations}
 use Rattle.theory.proofs.Lists.{at-all}
 use Rattle.rules.specs.Field.{Field}
 use Rattle.rules.specs.State.{State, noDefinition}
-use Rattle.context.specs.Store.{Store}
+use Rattle.store.specs.Store.{Store}
 use Rattle.context.specs.declared.Counts.{Counts}
 use Rattle.judge_plain.specs.declared.Phase.{Phase}
 use Rattle.resolve.proofs.Numbers.{declarationsOf}
@@ -15,9 +15,9 @@ use Rattle.worlds.specs.Rows.{Row}
 use Rattle.standing.specs.Standing.{Standing}
 use Rattle.chains.specs.Ready.{Ready}
 
-module _ (file : List ℕ) (fs : List Field) (s : State) (rs : List Row) (v : Store) (c : Counts) (p : Phase) (refs words declared : List ℕ)
-    (stands : Standing file fs s rs v c p refs words declared) where
-  pub standing-ready : Ready file refs v declared (c .declarations) c s rs (declarationsOf fs) (s .bytes)
+module _ (file : List ℕ) (fs : List Field) (s : State) (rs : List Row) (v : Store) (c : Counts) (p : Phase) (refs words : List ℕ)
+    (stands : Standing file fs s rs v c p refs words) where
+  pub standing-ready : Ready file refs v (v .declared) (c .declarations) c s rs (declarationsOf fs) (s .bytes)
   standing-ready =
       record {
         counted = stands .holds .definitions;

@@ -13,7 +13,7 @@ use Rattle.theory.proofs.Bytes.{bytes}
 use Rattle.theory.specs.Term.{Arities, Term, WellFormed, kindArity}
 use Rattle.rules.specs.State.{State, paramsOf}
 use Rattle.texts.specs.Text.{Declarations, noDeclaration}
-use Rattle.context.specs.Store.{Store}
+use Rattle.store.specs.Store.{Store}
 use Rattle.context.specs.declared.Counts.{Counts}
 use Rattle.worlds.proofs.Uses.{restrict, restricted, restricted-some, uses-more}
 use Rattle.worlds.specs.Rows.{Row, worldOf}

@@ -19,7 +19,7 @@ use Rattle.theory.specs.Term.{Kind, Term, constant, kindArity, variable}
 use Rattle.rules.specs.State.{State, paramsOf, templatesOf}
 use Rattle.laws.proofs.Formats.{some-injective}
 use Rattle.texts.specs.Text.{Declarations, noDeclaration}
-use Rattle.context.specs.Store.{Store}
+use Rattle.store.specs.Store.{Store}
 use Rattle.context.specs.declared.Counts.{Counts}
 use Rattle.worlds.proofs.File.{world-params}
 use Rattle.worlds.proofs.Uses.{uses-more}

@@ -23,7 +23,7 @@ use Rattle.texts.specs.Text.{Declarations, noDeclaration, refHead, shown, token
 use Rattle.worlds.specs.World.{AnyName, HeadMentions, Uses, World, numberIn, paramsIn}
 use Rattle.entering.specs.Numbering.{ShowsNumbers}
 use Rattle.entering.specs.Shows.{OneOf, Resolved, TextNames, TextsName, TokenNames}
-use Rattle.unfolding.specs.InWorld.{Place, byRefs, called, declaredIn, impliedIn, namedIn, standIn, termIn, termsIn, tokenIn}
+use Rattle.unfolding.specs.InWorld.{Setting, byRefs, called, declaredIn, impliedIn, namedIn, standIn, termIn, termsIn, tokenIn}
 use Rattle.unfolding.specs.StandIn.{placeAt}
 
 -- a head may stand there, and what it calls has C
@@ -67,7 +67,7 @@ declared-fits ar C decls N (l ∷ w) st n k r ts h i q a =
     (subst (λ (x : ℕ). C (standIn (length (l ∷ w)) x)) z (y .1)) q a
 
 module _ (refs : List ℕ) (decls : Declarations) (N F : ℕ → Type 0) (w : World) (numbers : List ℕ) (shows : ShowsNumbers F numbers w) where
-  abbrev P : Place
+  abbrev P : Setting
   P = placeAt (length w) (paramsIn w) numbers
 
   abbrev headOf : Placed → Head

@@ -22,7 +22,7 @@ use Rattle.texts.specs.Text.{Declarations, noDeclaration, refHead, shown, token
 use Rattle.worlds.specs.World.{World, evalAt, inWorld, numberIn, paramsIn, readDeclared}
 use Rattle.entering.specs.Numbering.{ShowsNumbers}
 use Rattle.entering.specs.Shows.{OneOf, Resolved, TextNames, TextsName, TokenNames}
-use Rattle.unfolding.specs.InWorld.{Place, byRefs, called, declaredIn, impliedIn, namedIn, standIn, termIn, termsIn, tokenIn}
+use Rattle.unfolding.specs.InWorld.{Setting, byRefs, called, declaredIn, impliedIn, namedIn, standIn, termIn, termsIn, tokenIn}
 use Rattle.unfolding.specs.StandIn.{placeAt}
 
 module _ {A : Type 0} (R : Reading A) (us : List A) where
@@ -69,7 +69,7 @@ module _ {A : Type 0} (M : Reading A) (G H : ℕ → List A → A) (decls : Decl
       ∙ ap₂ (λ (a b : List A). readDeclared M G (l ∷ w) a k x b) (take-at (take p us) vs p pl) (drop-at (take p us) vs p pl)
 
 module _ (refs : List ℕ) (decls : Declarations) (N F : ℕ → Type 0) (w : World) (numbers : List ℕ) (shows : ShowsNumbers F numbers w) where
-  abbrev P : Place
+  abbrev P : Setting
   P = placeAt (length w) (paramsIn w) numbers
 
   module _ {A : Type 0} (M : Reading A) (G H : ℕ → List A → A) (sameDefined : (r : ℕ) → F r → (vs : List A) → H (numberIn w r) vs ≡ G (numberIn w r) vs)

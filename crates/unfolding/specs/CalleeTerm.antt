@@ -13,7 +13,7 @@ use Rattle.rules.specs.State.{State, templatesOf}
 use Rattle.tokens.specs.Expr.{Found, exprAt, found, none}
 use Rattle.tokens.specs.declared.Token.{Token}
 use Rattle.texts.specs.Text.{Declarations, noDeclaration}
-use Rattle.context.specs.Store.{Store, firstAt}
+use Rattle.store.specs.Store.{Store, firstAt}
 use Rattle.worlds.specs.Rows.{Row}
 use Rattle.worlds.specs.World.{World}
 use Rattle.worlds.proofs.Runs.{Run}
@@ -24,7 +24,7 @@ use Rattle.entering.specs.declared.written.Writing.{Writing}
 use Rattle.entering.specs.declared.written.Writing.the-variants.{Unwritten, Written}
 use Rattle.chains.specs.Walk.{codeAt, siteOf, stepFits}
 use Rattle.unfolding.specs.AtLevel.{AtLevel}
-use Rattle.unfolding.specs.InWorld.{Place, byRefs, impliedIn, termIn}
+use Rattle.unfolding.specs.InWorld.{Setting, byRefs, impliedIn, termIn}
 use Rattle.unfolding.specs.Meaning.{meaningOf}
 use Rattle.unfolding.specs.Sense.{Sense}
 use Rattle.unfolding.specs.StandIn.{aritiesAlong, calledIn, placeAt}
@@ -45,11 +45,11 @@ pub record Entered (s : State) (rs : List Row) (bs : List Run) (facts : List ℕ
   pub over : stepFits facts (getD outers k 0) (getD currents k 0) ≡ false
 
 -- the place of a text at level l
-abbrev pub placeIn : List ℕ → List ℕ → ℕ → Place
+abbrev pub placeIn : List ℕ → List ℕ → ℕ → Setting
 placeIn numbers outers l = placeAt l (getD outers l 0) (rowOf numbers l)
 
 -- the term that an expression found is
-abbrev pub foundTerm : (ℕ → Token → ℕ) → Declarations → Place → Found → Term
+abbrev pub foundTerm : (ℕ → Token → ℕ) → Declarations → Setting → Found → Term
 foundTerm look decls P (found t e) = termIn look decls P t
 foundTerm look decls P none = nothing
 
@@ -59,7 +59,7 @@ ownTerm file refs facts decls k numbers currents outers =
     foundTerm (byRefs refs) decls (placeIn numbers outers k) (exprAt maxNesting file (firstAt facts (getD currents k 0)))
 
 -- what is written for a name, or what its name means where the instance stands
-abbrev pub writtenTerm : List ℕ → List ℕ → Store → Declarations → Place → Site → Kind → ℕ → Writing → Term
+abbrev pub writtenTerm : List ℕ → List ℕ → Store → Declarations → Setting → Site → Kind → ℕ → Writing → Term
 writtenTerm file refs v decls P site k x (Written at) = foundTerm (byRefs refs) decls P (exprAt maxNesting file at)
 writtenTerm file refs v decls P site k x Unwritten =
     impliedIn decls P (site .params) (kindArity k) (impliedRef (v .names) (v .facts) (v .contexts) (v .heads) (site .owner) x)

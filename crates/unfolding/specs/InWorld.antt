@@ -21,7 +21,7 @@ standIn l r = r + maxDeclarations * l
 
 -- How a text is brought: how many instances have been entered, how many parameters they have, and which definition each number of the text's
 -- module is.
-pub record Place : Type 0 where
+pub record Setting : Type 0 where
   pub level : ℕ
   pub outer : ℕ
   pub numbers : List ℕ
@@ -36,11 +36,11 @@ declaredIn decls zero outer r ts = let d = getD decls (r - maxDefinitions) noDec
 declaredIn decls (suc l) outer r ts = called outer (standIn (suc l) r) ts
 
 -- what a name was resolved to, r, over its arguments
-abbrev pub namedIn : Declarations → Place → ℕ → Terms → Term
+abbrev pub namedIn : Declarations → Setting → ℕ → Terms → Term
 namedIn decls P r ts = cond (ltb r maxDefinitions) (called (P .outer) (getD (P .numbers) r 0) ts) (declaredIn decls (P .level) (P .outer) r ts)
 
 -- a token over its arguments; `look` says what a name at a position was resolved to
-abbrev pub tokenIn : (ℕ → Token → ℕ) → Declarations → Place → ℕ → Token → Terms → Term
+abbrev pub tokenIn : (ℕ → Token → ℕ) → Declarations → Setting → ℕ → Token → Terms → Term
 tokenIn look decls P at (Parameter i) ts = node (param (P .outer + i)) ts
 tokenIn look decls P at (Bound j) ts = node (bound j) ts
 tokenIn look decls P at (Name n k) ts = namedIn decls P (look at (Name n k)) ts
@@ -50,10 +50,10 @@ tokenIn look decls P at (Literal v) ts = node (leaf (literal v)) ts
 tokenIn look decls P at NoToken ts = node (leaf (literal 0)) ts
 
 abbrev mutual
-  pub termIn : (ℕ → Token → ℕ) → Declarations → Place → Expr → Term
+  pub termIn : (ℕ → Token → ℕ) → Declarations → Setting → Expr → Term
   termIn look decls P (node h ts) = tokenIn look decls P (h .at) (h .token) (termsIn look decls P ts)
 
-  pub termsIn : (ℕ → Token → ℕ) → Declarations → Place → Exprs → Terms
+  pub termsIn : (ℕ → Token → ℕ) → Declarations → Setting → Exprs → Terms
   termsIn look decls P ⟨⟩ = ⟨⟩
   termsIn look decls P (t ▹ ts) = termIn look decls P t ▹ termsIn look decls P ts
 
@@ -63,5 +63,5 @@ byRefs refs at t = getD refs at 0
 
 -- "A declared name without a substitution stands for itself": what its name was resolved to, r, at its own k parameters after the p of its
 -- instance
-abbrev pub impliedIn : Declarations → Place → ℕ → ℕ → ℕ → Term
+abbrev pub impliedIn : Declarations → Setting → ℕ → ℕ → ℕ → Term
 impliedIn decls P p k r = namedIn decls P r (paramsFrom (P .outer + p) k)

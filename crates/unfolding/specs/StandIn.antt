@@ -14,7 +14,7 @@ use Rattle.rules.specs.State.{State, templatesOf}
 use Rattle.texts.specs.Text.{Declarations, noDeclaration}
 use Rattle.worlds.specs.World.{Uses, World, paramsIn, readDeclared}
 use Rattle.chains.proofs.Knowing.{NamedIn}
-use Rattle.unfolding.specs.InWorld.{Place, standIn}
+use Rattle.unfolding.specs.InWorld.{Setting, standIn}
 use Rattle.unfolding.specs.Meaning.{meaningOf}
 
 -- the outermost links of a chain, l of them: those that have been entered at level l
@@ -64,5 +64,5 @@ pub record Unfolds {A : Type 0} (M : Reading A) (s : State) (decls : Declaration
   pub calls : Uses (Callable decls D (outermost l w)) t
   pub means : (us : List A) → length us ≡ m → calledIn M s decls w n us ≡ eval (withDefined M (calledIn M s decls w)) us [] t
 
-abbrev pub placeAt : ℕ → ℕ → List ℕ → Place
+abbrev pub placeAt : ℕ → ℕ → List ℕ → Setting
 placeAt l outer numbers = record { level = l; outer = outer; numbers = numbers }

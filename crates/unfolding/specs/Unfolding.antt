@@ -11,7 +11,7 @@ use Rattle.tokens.specs.Expr.{Expr, exprAt, found}
 use Rattle.tokens.specs.Limit.{countsKept}
 use Rattle.texts.specs.Text.{Declarations}
 use Rattle.text_levels.proofs.OwnWorld.{RefsBelow}
-use Rattle.context.specs.Store.{Store}
+use Rattle.store.specs.Store.{Store}
 use Rattle.worlds.specs.World.{World}
 use Rattle.entering.specs.Implied.{impliedRef}
 use Rattle.entering.specs.declared.written.Writing.{Writing}

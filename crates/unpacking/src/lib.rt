@@ -28,6 +28,10 @@ impl Bits {
     const REFUSAL: u32 = 2147483648;
     // And the highest of 64.
     const WIDE_REFUSAL: u64 = 9223372036854775808;
+    // As many places as there are: a refusal's number stands above the 16 bits of its place, a part's start above those of its length.
+    const PLACES: u32 = 65536;
+    // The same in 64 bits.
+    const WIDE_PLACES: u64 = 65536;
 }
 
 // The reply of a check, a level query or an expansion.
@@ -37,7 +41,7 @@ pub fn unpack(reply: u32) -> Number
     if reply < Bits::REFUSAL {
         return Number::Result(reply);
     }
-    Number::Refused((reply - Bits::REFUSAL) / 65536, reply % 65536)
+    Number::Refused((reply - Bits::REFUSAL) / Bits::PLACES, reply % Bits::PLACES)
 }
 
 // The reply to whether two definitions are alike.
@@ -47,7 +51,7 @@ pub fn unpack_truth(reply: u32) -> Truth
     if reply < Bits::REFUSAL {
         return Truth::Result(reply == 1);
     }
-    Truth::Refused((reply - Bits::REFUSAL) / 65536, reply % 65536)
+    Truth::Refused((reply - Bits::REFUSAL) / Bits::PLACES, reply % Bits::PLACES)
 }
 
 // The reply to where a body stands.
@@ -55,7 +59,10 @@ pub fn unpack_span(reply: u64) -> Span
     ensures { λ r. ⌜ spanOutcome r ≡ unpackedSpan reply ⌝ }
 {
     if reply < Bits::WIDE_REFUSAL {
-        return Span::Result(reply / 65536, reply % 65536);
+        return Span::Result(reply / Bits::WIDE_PLACES, reply % Bits::WIDE_PLACES);
     }
-    Span::Refused((reply - Bits::WIDE_REFUSAL) / 65536, reply % 65536)
+    Span::Refused(
+        (reply - Bits::WIDE_REFUSAL) / Bits::WIDE_PLACES,
+        reply % Bits::WIDE_PLACES,
+    )
 }

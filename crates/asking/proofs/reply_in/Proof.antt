@@ -8,7 +8,7 @@ levels-cause-requires : tie.Need-levels-cause-requires
 levels-cause-requires c κs = search needs
 
 returns : tie.Need-returns
-returns c = reply-levels _ _ _ _ _ _ _ _ _ (λ i. c .before .before .before .before .before .before .before .before .shared-slice-known .given i .fits) _ (search needs) (search needs)
+returns c = reply-levels _ _ _ _ _ _ (λ i. c .before .before .before .shared-slice-known .given i .fits) _ (search needs) (search needs)
 
 walked-reply-requires : tie.Need-walked-reply-requires
 walked-reply-requires c κs = search needs

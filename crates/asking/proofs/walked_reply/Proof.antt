@@ -11,7 +11,7 @@ reply-of-requires : tie.Need-reply-of-requires
 reply-of-requires c κs = search needs
 
 returns : tie.Need-returns
-returns c = reply-walked _ _ _ _ _ _ _ _ _ (λ i. c .before .before .before .before .before .before .before .before .shared-slice-known .given i .fits) (search needs) _ (c .before .judge .ensures) _ (c .reply-of .ensures)
+returns c = reply-walked _ _ _ _ _ _ (λ i. c .before .before .before .shared-slice-known .given i .fits) (search needs) _ (c .before .judge .ensures) _ (c .reply-of .ensures)
 
 pub walked-reply-spec : {M : Type 1} → statement M
 walked-reply-spec = tie.close (tie.spec judge-requires reply-of-requires returns)

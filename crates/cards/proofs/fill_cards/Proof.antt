@@ -4,15 +4,16 @@ use lib.ListN.{length}
 use Rattle.rules.specs.Run.{overwrite}
 use Rattle.cards.specs.Cards.{cardsOf}
 use Rattle.cards.proofs.Cards.{card-turn, cards-done}
+use Rattle.store.specs.Store.{held}
 use borrow.Author.Needs.{needs}
 use Rattle.cards.proofs.fill_cards.Statement.{statement}
 use Rattle.cards.proofs.fill_cards.Tie as tie
 
 abbrev Inv-loop : tie.InvT-loop
-Inv-loop facts words n cards₀ g₀ cards g = (cards ≡ overwrite (cardsOf facts words g) cards₀) × (g ≤ n) × (length cards ≡ length cards₀)
+Inv-loop store words n cards₀ g₀ cards g = (cards ≡ overwrite (cardsOf (held store .facts) words g) cards₀) × (g ≤ n) × (length cards ≡ length cards₀)
 
 abbrev μ-loop : tie.MeasureT-loop
-μ-loop facts words n cards₀ g₀ cards g = n - g
+μ-loop store words n cards₀ g₀ cards g = n - g
 
 loop-holds : tie.Need-loop-holds Inv-loop μ-loop
 loop-holds c = (refl, search needs, refl)
@@ -20,14 +21,8 @@ loop-holds c = (refl, search needs, refl)
 form-at-requires : tie.Need-form-at-requires Inv-loop μ-loop
 form-at-requires c κs = search needs
 
-mul-number-at : tie.Need-mul-number-at Inv-loop μ-loop
-mul-number-at c = search needs
-
-number-at-requires : tie.Need-number-at-requires Inv-loop μ-loop
-number-at-requires c κs = search needs
-
-within-requires : tie.Need-within-requires Inv-loop μ-loop
-within-requires c κs = search needs
+params-at-requires : tie.Need-params-at-requires Inv-loop μ-loop
+params-at-requires c κs = search needs
 
 mul-fill : tie.Need-mul-fill Inv-loop μ-loop
 mul-fill c = search needs
@@ -42,13 +37,13 @@ loop-less : tie.Need-loop-less Inv-loop μ-loop
 loop-less c = search needs
 
 loop-again : tie.Need-loop-again Inv-loop μ-loop
-loop-again c = (search card-turn, search needs, search needs)
+loop-again c = (search (needs, card-turn), search needs, search needs)
 
 same-length : tie.Need-same-length Inv-loop μ-loop
 same-length c = search needs
 
 returns : tie.Need-returns Inv-loop μ-loop
-returns c = search cards-done
+returns c = search (needs, cards-done)
 
 pub fill-cards-spec : {M : Type 1} → statement M
 fill-cards-spec =
@@ -58,9 +53,7 @@ fill-cards-spec =
     μ-loop
     loop-holds
     form-at-requires
-    mul-number-at
-    number-at-requires
-    within-requires
+    params-at-requires
     mul-fill
     fill-requires
     add-g

@@ -1,81 +1,19 @@
-use Rattle.checker.proofs.Answers.{check-concluded, empty-store}
+use Rattle.checker.proofs.Answers.{check-concluded, starts-empty}
 use borrow.Author.Needs.{needs}
 use Rattle.checker.proofs.check_fields.Statement.{statement}
 use Rattle.checker.proofs.check_fields.Tie as tie
 
-no-names-requires : tie.Need-no-names-requires
-no-names-requires c κs = search needs
-
-no-facts-requires : tie.Need-no-facts-requires
-no-facts-requires c κs = search needs
-
-no-contexts-requires : tie.Need-no-contexts-requires
-no-contexts-requires c κs = search needs
-
-no-orders-requires : tie.Need-no-orders-requires
-no-orders-requires c κs = search needs
-
-no-heads-requires : tie.Need-no-heads-requires
-no-heads-requires c κs = search needs
-
-slice-aggregate-judge-in : tie.Need-slice-aggregate-judge-in
-slice-aggregate-judge-in c = search needs
-
-slice-aggregate-judge-in-2 : tie.Need-slice-aggregate-judge-in-2
-slice-aggregate-judge-in-2 c = search needs
-
-slice-aggregate-judge-in-3 : tie.Need-slice-aggregate-judge-in-3
-slice-aggregate-judge-in-3 c = search needs
-
-slice-aggregate-judge-in-4 : tie.Need-slice-aggregate-judge-in-4
-slice-aggregate-judge-in-4 c = search needs
-
-slice-aggregate-judge-in-5 : tie.Need-slice-aggregate-judge-in-5
-slice-aggregate-judge-in-5 c = search needs
-
-slice-aggregate-judge-in-6 : tie.Need-slice-aggregate-judge-in-6
-slice-aggregate-judge-in-6 c = search needs
-
-slice-aggregate-judge-in-7 : tie.Need-slice-aggregate-judge-in-7
-slice-aggregate-judge-in-7 c = search needs
-
-slice-aggregate-judge-in-8 : tie.Need-slice-aggregate-judge-in-8
-slice-aggregate-judge-in-8 c = search needs
-
-slice-aggregate-judge-in-9 : tie.Need-slice-aggregate-judge-in-9
-slice-aggregate-judge-in-9 c = search needs
-
-slice-aggregate-judge-in-10 : tie.Need-slice-aggregate-judge-in-10
-slice-aggregate-judge-in-10 c = search needs
+empty-context-requires : tie.Need-empty-context-requires
+empty-context-requires c κs = search needs
 
 judge-in-requires : tie.Need-judge-in-requires
-judge-in-requires c κs = (search needs, search needs, search needs, search needs, empty-store (c .before .before .before .before .before .before .before .before .before .before .before .before .before .before .before .no-names .ensures) (c .before .before .before .before .before .before .before .before .before .before .before .before .before .before .no-facts .ensures) (c .before .before .before .before .before .before .before .before .before .before .before .before .before .no-contexts .ensures) (c .before .before .before .before .before .before .before .before .before .before .before .before .no-orders .ensures) (c .before .before .before .before .before .before .before .before .before .before .before .no-heads .ensures), search needs, search needs, search needs, search needs, search needs)
+judge-in-requires c κs = (search needs, search needs, search needs, search needs, search (needs, starts-empty), search needs, search needs)
 
 same-length : tie.Need-same-length
 same-length c = search needs
 
 returns : tie.Need-returns
-returns c = check-concluded _ _ _ _ _ _ _ _ _ (c .before .before .before .before .before .before .before .before .before .before .before .before .before .before .before .before .before .before .before .before .before .before .before .before .before .before .before .before .before .before .before .pre .0) (c .before .before .before .before .before .before .before .before .before .before .before .before .before .before .before .before .before .before .before .before .before .before .before .before .before .before .before .before .before .before .before .pre .1) (c .before .before .before .before .before .before .before .before .before .before .before .before .before .before .before .before .before .before .before .before .before .before .before .before .before .before .before .before .before .before .before .pre .2) (c .before .before .before .before .before .before .before .before .before .before .before .before .judge-in .ensures)
+returns c = search check-concluded
 
 pub check-fields-spec : {M : Type 1} → statement M
-check-fields-spec =
-    tie.close
-    (tie.spec
-    no-names-requires
-    no-facts-requires
-    no-contexts-requires
-    no-orders-requires
-    no-heads-requires
-    slice-aggregate-judge-in
-    slice-aggregate-judge-in-2
-    slice-aggregate-judge-in-3
-    slice-aggregate-judge-in-4
-    slice-aggregate-judge-in-5
-    slice-aggregate-judge-in-6
-    slice-aggregate-judge-in-7
-    slice-aggregate-judge-in-8
-    slice-aggregate-judge-in-9
-    slice-aggregate-judge-in-10
-    judge-in-requires
-    same-length
-    returns)
+check-fields-spec = tie.close (tie.spec empty-context-requires judge-in-requires same-length returns)

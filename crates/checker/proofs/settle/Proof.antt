@@ -7,7 +7,7 @@ enum-known-reply : tie.Need-enum-known-reply
 enum-known-reply c = search needs
 
 fill-cards-requires : tie.Need-fill-cards-requires
-fill-cards-requires c κs = (search needs, search few-in, search needs)
+fill-cards-requires c κs = (search few-in, search needs)
 
 enum-told : tie.Need-enum-told
 enum-told c = search needs

@@ -5,67 +5,17 @@ use Rattle.declaring.proofs.constant_stands.Statement.{statement}
 use Rattle.declaring.proofs.constant_stands.Tie as tie
 
 constant-field-requires : tie.Need-constant-field-requires
-constant-field-requires c κs = (search needs, search needs, search needs, search needs, search needs, search needs, search context-room)
-
-same-length : tie.Need-same-length
-same-length c = search needs
-
-same-length-2 : tie.Need-same-length-2
-same-length-2 c = search needs
-
-same-length-3 : tie.Need-same-length-3
-same-length-3 c = search needs
-
-same-length-4 : tie.Need-same-length-4
-same-length-4 c = search needs
+constant-field-requires c κs = search (needs, context-room)
 
 returns : tie.Need-returns
-returns c = search constant-refused
+returns c = search (needs, constant-refused)
 
-note-declaration-requires : tie.Need-note-declaration-requires
-note-declaration-requires c κs =
-    let pre = c .before .before .before .before .before .before .before .before .before .before .before .before .before .before .before .before .before .before .before .before .before .before .before .before .pre in
-    (search needs, search needs, search (needs, pre), search few-lawful)
-
-same-length-5 : tie.Need-same-length-5
-same-length-5 c = search needs
-
-same-length-6 : tie.Need-same-length-6
-same-length-6 c = search needs
-
-same-length-7 : tie.Need-same-length-7
-same-length-7 c = search needs
-
-same-length-8 : tie.Need-same-length-8
-same-length-8 c = search needs
-
-same-length-9 : tie.Need-same-length-9
-same-length-9 c = search needs
-
-same-length-10 : tie.Need-same-length-10
-same-length-10 c = search needs
+put-itself-requires : tie.Need-put-itself-requires
+put-itself-requires c κs = search (needs, few-lawful)
 
 returns-2 : tie.Need-returns-2
-returns-2 c =
-    let pre = c .before .before .before .before .before .before .before .before .before .before .before .before .before .before .before .before .before .before .before .before .before .before .before .before .before .before .before .before .before .pre in
-    let told = c .before .before .before .before .before .before .before .before .before .before .before .before .before .before .before .before .before .constant-field .ensures in
-    search (constant-lawful, pre, told)
+returns-2 c = search (needs, constant-lawful)
 
 pub constant-stands-spec : {M : Type 1} → statement M
 constant-stands-spec =
-    tie.close
-    (tie.spec
-    constant-field-requires
-    same-length
-    same-length-2
-    same-length-3
-    same-length-4
-    returns
-    note-declaration-requires
-    same-length-5
-    same-length-6
-    same-length-7
-    same-length-8
-    same-length-9
-    same-length-10
-    returns-2)
+    tie.close (tie.spec constant-field-requires returns put-itself-requires returns-2)

@@ -15,19 +15,10 @@ returns c = search judged-first
 name-cause-requires : tie.Need-name-cause-requires
 name-cause-requires c κs = (search needs, search source-below)
 
-same-length : tie.Need-same-length
-same-length c = search needs
-
 returns-2 : tie.Need-returns-2
 returns-2 c = search judged-names
 
 pub instance-cause-spec : {M : Type 1} → statement M
 instance-cause-spec =
     tie.close
-    (tie.spec
-    site-of-requires
-    first-cause-requires
-    returns
-    name-cause-requires
-    same-length
-    returns-2)
+    (tie.spec site-of-requires first-cause-requires returns name-cause-requires returns-2)

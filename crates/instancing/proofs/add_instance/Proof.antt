@@ -6,14 +6,14 @@ use Rattle.instancing.proofs.add_instance.Tie as tie
 add-fields : tie.Need-add-fields
 add-fields c = search needs
 
-mul-number-at : tie.Need-mul-number-at
-mul-number-at c = search needs
+mul-head-at : tie.Need-mul-head-at
+mul-head-at c = search needs
 
-add-number-at : tie.Need-add-number-at
-add-number-at c = search needs
+add-head-at : tie.Need-add-head-at
+add-head-at c = search needs
 
-number-at-requires : tie.Need-number-at-requires
-number-at-requires c κs = search needs
+head-at-requires : tie.Need-head-at-requires
+head-at-requires c κs = search needs
 
 mul-from : tie.Need-mul-from
 mul-from c = search needs
@@ -33,76 +33,45 @@ add-definitions c = search needs
 add-o : tie.Need-add-o
 add-o c = search needs
 
-add-bring-all : tie.Need-add-bring-all
-add-bring-all c = search needs
+add-t21 : tie.Need-add-t21
+add-t21 c = search needs
 
-cast-t26 : tie.Need-cast-t26
-cast-t26 c = search needs
+cast-t22 : tie.Need-cast-t22
+cast-t22 c = search needs
 
-cast-t27 : tie.Need-cast-t27
-cast-t27 c = search needs
+cast-t23 : tie.Need-cast-t23
+cast-t23 c = search needs
 
-cast-bring-all : tie.Need-cast-bring-all
-cast-bring-all c = search needs
+cast-t21 : tie.Need-cast-t21
+cast-t21 c = search needs
 
 bring-all-requires : tie.Need-bring-all-requires
 bring-all-requires c κs = search needs
 
 note-instance-requires : tie.Need-note-instance-requires
-note-instance-requires c κs = (
-  search needs,
-  search needs,
-  search needs,
-  search needs,
-  search needs,
-  search needs,
-  noted-room _ _ _ _ (c .before .before .before .before .before .before .before .before .before .before .before .before .before .before .before .before .before .before .before .before .before .before .before .before .before .before .before .before .before .before .pre .5) _ _ _ _ _ _ _ _ _ _ _ _ _ (c .before .before .before .before .before .before .before .before .before .before .before .before .before .before .before .bring-all .ensures) (c .before .before .before .before .before .before .before .before .before .before .before .before .before .before .before .before .before .before .before .before .before .before .before .before .before .before .before .before .before .before .pre .4) (c .before .before .before .before .before .before .before .before .before .before .before .before .before .before .before .before .before .before .before .before .before .before .number-at .ensures) (c .before .before .before .before .before .before .before .before .before .before .before .before .before .before .before .before .before .before .before .before .before .before .before .before .before .before .before .before .before .before .pre .10),
-)
-
-same-length : tie.Need-same-length
-same-length c = search needs
-
-same-length-2 : tie.Need-same-length-2
-same-length-2 c = search needs
-
-same-length-3 : tie.Need-same-length-3
-same-length-3 c = search needs
-
-same-length-4 : tie.Need-same-length-4
-same-length-4 c = search needs
-
-same-length-5 : tie.Need-same-length-5
-same-length-5 c = search needs
+note-instance-requires c κs = (search needs, search needs, noted-room _ _ _ _ _ _ _ _ _ (c .before .bring-all .ensures) (c .before .before .before .before .head-at .ensures) (c .before .before .before .before .before .before .before .pre .5))
 
 returns : tie.Need-returns
-returns c = (
-  search instance-counts,
-  instance-all _ _ _ _ _ _ _ _ _ _ _ _ _ _ _ _ _ _ _ _ _ (c .before .before .before .before .before .before .before .before .before .before .before .before .before .before .before .before .before .before .before .before .before .before .before .before .before .before .before .before .before .before .before .number-at .ensures) (c .before .before .before .before .before .before .before .before .before .before .before .before .before .before .before .before .before .before .before .before .before .before .before .before .bring-all .ensures) (c .before .before .before .before .before .before .before .before .note-instance .ensures),
-)
+returns c = (search (needs, instance-counts), search (needs, instance-all))
 
 pub add-instance-spec : {M : Type 1} → statement M
 add-instance-spec =
     tie.close
     (tie.spec
     add-fields
-    mul-number-at
-    add-number-at
-    number-at-requires
+    mul-head-at
+    add-head-at
+    head-at-requires
     mul-from
     cast-end
     add-end
     cast-definitions
     add-definitions
     add-o
-    add-bring-all
-    cast-t26
-    cast-t27
-    cast-bring-all
+    add-t21
+    cast-t22
+    cast-t23
+    cast-t21
     bring-all-requires
     note-instance-requires
-    same-length
-    same-length-2
-    same-length-3
-    same-length-4
-    same-length-5
     returns)

@@ -1,5 +1,5 @@
-use borrow.Author.Needs.{needs}
 use Rattle.judge_texts.proofs.Answers.{own-numbers}
+use borrow.Author.Needs.{needs}
 use Rattle.judge_texts.proofs.own_form.Statement.{statement}
 use Rattle.judge_texts.proofs.own_form.Tie as tie
 

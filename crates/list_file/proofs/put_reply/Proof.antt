@@ -1,5 +1,6 @@
--- `put_reply`: by the reply.
-use Rattle.list_file.proofs.Files.{few-in, front-as, text-in}
+use Rattle.store.specs.Store.{held}
+use Rattle.checker.proofs.Answers.{few-in}
+use Rattle.list_file.proofs.Files.{front-as, text-in}
 use borrow.Author.Needs.{needs}
 use Rattle.list_file.proofs.put_reply.Statement.{statement}
 use Rattle.list_file.proofs.put_reply.Tie as tie
@@ -20,13 +21,17 @@ same-length : tie.Need-same-length
 same-length c = search needs
 
 returns : tie.Need-returns
-returns c = front-as _ _ _ _ _ (c .before .before .write-listing .ensures) (text-in (c .before .before .before .before .before .before .before .before .before .before .before .args .names .now) (c .before .before .before .before .before .before .before .before .before .before .before .args .facts .now) (c .before .before .before .before .before .before .before .before .before .before .before .args .words .now) _ _ (c .before .before .before .before .before .reply .given .1))
+returns c =
+    front-as _ _ _ _ _ (c .before .before .write-listing .ensures)
+    (text-in (held (c .before .before .before .before .before .before .before .before .args .store .now) .names) (held (c .before .before .before .before .before .before .before .before .args .store .now) .facts) (c .before .before .before .before .before .before .before .before .args .words .now) _ _ (c .before .before .before .before .before .reply .given .1))
 
 same-length-2 : tie.Need-same-length-2
 same-length-2 c = search needs
 
 returns-2 : tie.Need-returns-2
-returns-2 c = front-as _ _ _ _ _ (c .before .before .write-refusal .ensures) (text-in (c .before .before .before .before .before .before .before .before .before .before .before .args .names .now) (c .before .before .before .before .before .before .before .before .before .before .before .args .facts .now) (c .before .before .before .before .before .before .before .before .before .before .before .args .words .now) _ _ (c .before .before .before .before .before .reply2 .given .1))
+returns-2 c =
+    front-as _ _ _ _ _ (c .before .before .write-refusal .ensures)
+    (text-in (held (c .before .before .before .before .before .before .before .before .args .store .now) .names) (held (c .before .before .before .before .before .before .before .before .args .store .now) .facts) (c .before .before .before .before .before .before .before .before .args .words .now) _ _ (c .before .before .before .before .before .reply2 .given .1))
 
 pub put-reply-spec : {M : Type 1} → statement M
 put-reply-spec =

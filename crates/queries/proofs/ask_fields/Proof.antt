@@ -1,66 +1,13 @@
-use Rattle.checker.proofs.Answers.{empty-store}
+use Rattle.checker.proofs.Answers.{starts-empty}
 use borrow.Author.Needs.{needs}
 use Rattle.queries.proofs.ask_fields.Statement.{statement}
 use Rattle.queries.proofs.ask_fields.Tie as tie
 
-no-names-requires : tie.Need-no-names-requires
-no-names-requires c κs = search needs
-
-no-facts-requires : tie.Need-no-facts-requires
-no-facts-requires c κs = search needs
-
-no-contexts-requires : tie.Need-no-contexts-requires
-no-contexts-requires c κs = search needs
-
-no-orders-requires : tie.Need-no-orders-requires
-no-orders-requires c κs = search needs
-
-no-heads-requires : tie.Need-no-heads-requires
-no-heads-requires c κs = search needs
-
-slice-aggregate-ask-in : tie.Need-slice-aggregate-ask-in
-slice-aggregate-ask-in c = search needs
-
-slice-aggregate-ask-in-2 : tie.Need-slice-aggregate-ask-in-2
-slice-aggregate-ask-in-2 c = search needs
-
-slice-aggregate-ask-in-3 : tie.Need-slice-aggregate-ask-in-3
-slice-aggregate-ask-in-3 c = search needs
-
-slice-aggregate-ask-in-4 : tie.Need-slice-aggregate-ask-in-4
-slice-aggregate-ask-in-4 c = search needs
-
-slice-aggregate-ask-in-5 : tie.Need-slice-aggregate-ask-in-5
-slice-aggregate-ask-in-5 c = search needs
-
-slice-aggregate-ask-in-6 : tie.Need-slice-aggregate-ask-in-6
-slice-aggregate-ask-in-6 c = search needs
-
-slice-aggregate-ask-in-7 : tie.Need-slice-aggregate-ask-in-7
-slice-aggregate-ask-in-7 c = search needs
-
-slice-aggregate-ask-in-8 : tie.Need-slice-aggregate-ask-in-8
-slice-aggregate-ask-in-8 c = search needs
-
-slice-aggregate-ask-in-9 : tie.Need-slice-aggregate-ask-in-9
-slice-aggregate-ask-in-9 c = search needs
-
-slice-aggregate-ask-in-10 : tie.Need-slice-aggregate-ask-in-10
-slice-aggregate-ask-in-10 c = search needs
+empty-context-requires : tie.Need-empty-context-requires
+empty-context-requires c κs = search needs
 
 ask-in-requires : tie.Need-ask-in-requires
-ask-in-requires c κs = (
-  search needs,
-  search needs,
-  search needs,
-  search needs,
-  empty-store (c .before .before .before .before .before .before .before .before .before .before .before .before .before .before .before .no-names .ensures) (c .before .before .before .before .before .before .before .before .before .before .before .before .before .before .no-facts .ensures) (c .before .before .before .before .before .before .before .before .before .before .before .before .before .no-contexts .ensures) (c .before .before .before .before .before .before .before .before .before .before .before .before .no-orders .ensures) (c .before .before .before .before .before .before .before .before .before .before .before .no-heads .ensures),
-  search needs,
-  search needs,
-  search needs,
-  search needs,
-  search needs,
-)
+ask-in-requires c κs = (search needs, search needs, search needs, search needs, search (needs, starts-empty), search needs, search needs)
 
 same-length : tie.Need-same-length
 same-length c = search needs
@@ -69,24 +16,4 @@ returns : tie.Need-returns
 returns c = search needs
 
 pub ask-fields-spec : {M : Type 1} → statement M
-ask-fields-spec =
-    tie.close
-    (tie.spec
-    no-names-requires
-    no-facts-requires
-    no-contexts-requires
-    no-orders-requires
-    no-heads-requires
-    slice-aggregate-ask-in
-    slice-aggregate-ask-in-2
-    slice-aggregate-ask-in-3
-    slice-aggregate-ask-in-4
-    slice-aggregate-ask-in-5
-    slice-aggregate-ask-in-6
-    slice-aggregate-ask-in-7
-    slice-aggregate-ask-in-8
-    slice-aggregate-ask-in-9
-    slice-aggregate-ask-in-10
-    ask-in-requires
-    same-length
-    returns)
+ask-fields-spec = tie.close (tie.spec empty-context-requires ask-in-requires same-length returns)

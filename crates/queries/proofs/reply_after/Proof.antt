@@ -7,7 +7,7 @@ enum-told : tie.Need-enum-told
 enum-told c = search needs
 
 reply-to-requires : tie.Need-reply-to-requires
-reply-to-requires c κs = (search few-modules, search few-definitions, search needs, search needs)
+reply-to-requires c κs = (search few-modules, search few-definitions, search needs)
 
 enum-known-reply : tie.Need-enum-known-reply
 enum-known-reply c = search needs

@@ -3,6 +3,7 @@ use Prim.Native.Nat.{_+_, _-_, _*_, suc}
 use native.Mathlib.Omega.{arith}
 use Rattle.limits.specs.Limits.{maxArity}
 use Rattle.context.specs.Parts.{part}
+use Rattle.store.specs.Store.{held}
 use Rattle.skimming.proofs.Walking.{Going, going-below, going-end, going-inside, going-leaf, going-low, going-on, going-start, going-within, stop-inside, stop-limit, stop-token}
 use borrow.Author.Needs.{needs}
 use Prim.Native.Nat.{ℕ, _<_}
@@ -19,25 +20,25 @@ use Rattle.skimming.proofs.under.Reads as under-reads
 use Rattle.skimming.proofs.+skim_args.{statement}
 use Rattle.skimming.proofs.+skim_args.Tie.{close}
 
-abbrev μ-skim-args : Measures 7 skim-args-kinds.ps ℕ
-μ-skim-args κs a = a .1 .1 .1 .1 .1 .1 .1 .1 .1 .0
+abbrev μ-skim-args : Measures 4 skim-args-kinds.ps ℕ
+μ-skim-args κs a = a .1 .1 .1 .1 .1 .0 .nest
 
-abbrev skim-args-at : ℕ → In 7 skim-args-kinds.ps
-skim-args-at t = and 7 skim-args-kinds.ps (is 7 skim-args-kinds.ps μ-skim-args t) skim-args.Pre
+abbrev skim-args-at : ℕ → In 4 skim-args-kinds.ps
+skim-args-at t = and 4 skim-args-kinds.ps (is 4 skim-args-kinds.ps μ-skim-args t) skim-args.Pre
 
-abbrev skim-args-below : ℕ → In 7 skim-args-kinds.ps
+abbrev skim-args-below : ℕ → In 4 skim-args-kinds.ps
 skim-args-below t =
-    and 7 skim-args-kinds.ps (falls 7 skim-args-kinds.ps _<_ μ-skim-args t) skim-args.Pre
+    and 4 skim-args-kinds.ps (falls 4 skim-args-kinds.ps _<_ μ-skim-args t) skim-args.Pre
 
 abbrev skim-args-calls : ℕ → skim-args-lts.Claims
 skim-args-calls t = (nothing-reads.Asked, nothing-reads.Learnt, stopped-reads.Asked, stopped-reads.Learnt, under-reads.Asked, under-reads.Learnt, next-step-reads.Asked, next-step-reads.Learnt, skim-args-below t, skim-args.Post, both-reads.Asked, both-reads.Learnt)
 
 abbrev skim-args-Inv-loop : skim-args-lts.InvT-loop
-skim-args-Inv-loop s column table nexts contexts names facts at count nesting p around within a₀ k₀ nest₀ outer₀ last₀ a k nest outer last =
-    Going names facts (part contexts (p .from) (p .end - p .from)) (p .params) s at count nesting around within a k nest outer last
+skim-args-Inv-loop s column tables store p g a₀ k₀ nest₀ outer₀ last₀ a k nest outer last =
+    Going (held store .names) (held store .facts) (part (held store .contexts) (p .from) (p .end - p .from)) (p .params) s (g .at) (g .count) (g .nest) (g .around) (g .within) a k nest outer last
 
 abbrev skim-args-μ-loop : skim-args-lts.MeasureT-loop
-skim-args-μ-loop s column table nexts contexts names facts at count nesting p around within a₀ k₀ nest₀ outer₀ last₀ a k nest outer last =
+skim-args-μ-loop s column tables store p g a₀ k₀ nest₀ outer₀ last₀ a k nest outer last =
     nest * suc maxArity + k
 
 skim-args-nothing-requires : (t : ℕ) → skim-args-lts.Need-nothing-requires (skim-args-calls t) (skim-args-at t) skim-args.Post skim-args-Inv-loop skim-args-μ-loop
@@ -56,7 +57,7 @@ skim-args-under-requires : (t : ℕ) → skim-args-lts.Need-under-requires (skim
 skim-args-under-requires t c κs = search needs
 
 skim-args-next-step-requires : (t : ℕ) → skim-args-lts.Need-next-step-requires (skim-args-calls t) (skim-args-at t) skim-args.Post skim-args-Inv-loop skim-args-μ-loop
-skim-args-next-step-requires t c κs = (c .before .before .before .before .before .before .before .before .before .before .before .before .pre .1 .0, search going-low)
+skim-args-next-step-requires t c κs = (c .before .before .before .before .before .before .before .before .pre .1 .0, c .before .before .before .before .before .before .before .before .pre .1 .1, search going-low)
 
 skim-args-sub-k : (t : ℕ) → skim-args-lts.Need-sub-k (skim-args-calls t) (skim-args-at t) skim-args.Post skim-args-Inv-loop skim-args-μ-loop
 skim-args-sub-k t c = search needs
@@ -76,11 +77,11 @@ skim-args-loop-less-2 t c = search needs
 skim-args-loop-again-2 : (t : ℕ) → skim-args-lts.Need-loop-again-2 (skim-args-calls t) (skim-args-at t) skim-args.Post skim-args-Inv-loop skim-args-μ-loop
 skim-args-loop-again-2 t c = search (needs, going-inside)
 
-skim-args-sub-skim-args : (t : ℕ) → skim-args-lts.Need-sub-skim-args (skim-args-calls t) (skim-args-at t) skim-args.Post skim-args-Inv-loop skim-args-μ-loop
-skim-args-sub-skim-args t c = search needs
+skim-args-sub-t18 : (t : ℕ) → skim-args-lts.Need-sub-t18 (skim-args-calls t) (skim-args-at t) skim-args.Post skim-args-Inv-loop skim-args-μ-loop
+skim-args-sub-t18 t c = search needs
 
 skim-args-skim-args-requires : (t : ℕ) → skim-args-lts.Need-skim-args-requires (skim-args-calls t) (skim-args-at t) skim-args.Post skim-args-Inv-loop skim-args-μ-loop
-skim-args-skim-args-requires t c κs = (omega (arith, c .before .before .before .before .before .before .before .before .before .before .before .before .before .before .before .before .before .before .pre .0, c .before .before .before .before .before .before .before .before .before .loop .inv .deep), (c .before .before .before .before .before .before .before .before .before .before .before .before .before .before .before .before .before .before .pre .1 .0, going-below _ _ _ _ _ _ _ _ _ _ _ _ _ _ _ (c .before .before .before .before .before .before .before .before .before .loop .inv) _ (c .before .before .before .before .before .before .under .ensures), going-within _ _ _ _ _ _ _ _ _ _ _ _ _ _ _ (c .before .before .before .before .before .before .before .before .before .loop .inv) _ (c .before .before .before .before .before .before .under .ensures) _ (c .before .before .before .before .before .next-step .ensures) (c .before .before .before .before .before .before .before .if1 .left), c .before .before .before .before .before .next-step .ensures .few))
+skim-args-skim-args-requires t c κs = (omega (arith, c .before .before .before .before .before .before .before .before .before .before .before .before .before .before .pre .0, c .before .before .before .before .before .before .before .before .before .loop .inv .deep), (c .before .before .before .before .before .before .before .before .before .before .before .before .before .before .pre .1 .0, c .before .before .before .before .before .before .before .before .before .before .before .before .before .before .pre .1 .1, going-below _ _ _ _ _ _ _ _ _ _ _ _ _ _ _ (c .before .before .before .before .before .before .before .before .before .loop .inv) _ (c .before .before .before .before .before .before .under .ensures), going-within _ _ _ _ _ _ _ _ _ _ _ _ _ _ _ (c .before .before .before .before .before .before .before .before .before .loop .inv) _ (c .before .before .before .before .before .before .under .ensures) _ (c .before .before .before .before .before .next-step .ensures) (c .before .before .before .before .before .before .before .if1 .left), c .before .before .before .before .before .next-step .ensures .few))
 
 skim-args-both-requires : (t : ℕ) → skim-args-lts.Need-both-requires (skim-args-calls t) (skim-args-at t) skim-args.Post skim-args-Inv-loop skim-args-μ-loop
 skim-args-both-requires t c κs = search needs
@@ -127,7 +128,7 @@ pub +skim-args-spec : {M : Type 1} → statement M
     (skim-args-sub-nest t)
     (skim-args-loop-less-2 t)
     (skim-args-loop-again-2 t)
-    (skim-args-sub-skim-args t)
+    (skim-args-sub-t18 t)
     (skim-args-skim-args-requires t)
     (skim-args-both-requires t)
     (skim-args-sub-k-2 t)

@@ -1,6 +1,6 @@
 -- `skim_expr`: one argument.
-use borrow.Author.Needs.{needs}
 use Rattle.skimming.proofs.Walking.{one-alone}
+use borrow.Author.Needs.{needs}
 use Rattle.skimming.proofs.skim_expr.Statement.{statement}
 use Rattle.skimming.proofs.skim_expr.Tie as tie
 

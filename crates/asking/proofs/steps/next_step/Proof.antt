@@ -7,11 +7,11 @@ use Rattle.asking.proofs.steps.next_step.Tie as tie
 sub-if2 : tie.Need-sub-if2
 sub-if2 c = search needs
 
-add-x : tie.Need-add-x
-add-x c = search needs
+add-byte : tie.Need-add-byte
+add-byte c = search needs
 
-shared-slice-read-x : tie.Need-shared-slice-read-x
-shared-slice-read-x c = search needs
+shared-slice-read-byte : tie.Need-shared-slice-read-byte
+shared-slice-read-byte c = search needs
 
 shared-slice-read-tag : tie.Need-shared-slice-read-tag
 shared-slice-read-tag c = search needs
@@ -45,8 +45,8 @@ next-step-spec =
     tie.close
     (tie.spec
     sub-if2
-    add-x
-    shared-slice-read-x
+    add-byte
+    shared-slice-read-byte
     shared-slice-read-tag
     add-parameter-at
     parameter-at-requires

@@ -3,6 +3,7 @@ use native.Mathlib.Omega.{arith}
 use Prim.Native.Nat.{_+_, _-_, _*_, suc}
 use Rattle.limits.specs.Limits.{maxArity}
 use Rattle.context.specs.Parts.{part}
+use Rattle.store.specs.Store.{held}
 use Rattle.asking.proofs.Walking.{Going, going-bits, going-bound, going-end, going-inside, going-leaf, going-on, going-roomy, going-start, stop-inside, stop-limit, stop-token}
 use borrow.Author.Needs.{needs}
 use Prim.Native.Nat.{ℕ, _<_}
@@ -20,25 +21,25 @@ use Rattle.resolve.proofs.steps.nothing.Reads as nothing-reads
 use Rattle.asking.proofs.walk.+walk_args.{statement}
 use Rattle.asking.proofs.walk.+walk_args.Tie.{close}
 
-abbrev μ-walk-args : Measures 8 walk-args-kinds.ps ℕ
-μ-walk-args κs a = a .1 .1 .1 .1 .1 .1 .1 .1 .1 .1 .0
+abbrev μ-walk-args : Measures 5 walk-args-kinds.ps ℕ
+μ-walk-args κs a = a .1 .1 .1 .1 .1 .1 .0 .nest
 
-abbrev walk-args-at : ℕ → In 8 walk-args-kinds.ps
-walk-args-at t = and 8 walk-args-kinds.ps (is 8 walk-args-kinds.ps μ-walk-args t) walk-args.Pre
+abbrev walk-args-at : ℕ → In 5 walk-args-kinds.ps
+walk-args-at t = and 5 walk-args-kinds.ps (is 5 walk-args-kinds.ps μ-walk-args t) walk-args.Pre
 
-abbrev walk-args-below : ℕ → In 8 walk-args-kinds.ps
+abbrev walk-args-below : ℕ → In 5 walk-args-kinds.ps
 walk-args-below t =
-    and 8 walk-args-kinds.ps (falls 8 walk-args-kinds.ps _<_ μ-walk-args t) walk-args.Pre
+    and 5 walk-args-kinds.ps (falls 5 walk-args-kinds.ps _<_ μ-walk-args t) walk-args.Pre
 
 abbrev walk-args-calls : ℕ → walk-args-lts.Claims
 walk-args-calls t = (nothing-reads.Asked, nothing-reads.Learnt, stopped-reads.Asked, stopped-reads.Learnt, scope-reads.Asked, scope-reads.Learnt, first-label-reads.Asked, first-label-reads.Learnt, next-step-reads.Asked, next-step-reads.Learnt, walk-args-below t, walk-args.Post, both-reads.Asked, both-reads.Learnt)
 
 abbrev walk-args-Inv-loop : walk-args-lts.InvT-loop
-walk-args-Inv-loop s column table nexts contexts names facts words at count nesting p before a₀ form₀ k₀ nest₀ around₀ within₀ label₀ labels₀ a form k nest around within label labels =
-    Going names facts (part contexts (p .from) (p .end - p .from)) words (p .params) s at count nesting (record { around = around₀; within = within₀; label = label₀; labels = labels₀ }) before a form k nest around within label labels
+walk-args-Inv-loop s column tables store words p g a₀ form₀ k₀ nest₀ around₀ within₀ label₀ labels₀ a form k nest around within label labels =
+    Going (held store .names) (held store .facts) (part (held store .contexts) (p .from) (p .end - p .from)) words (p .params) s (g .at) (g .count) (g .nest) (record { around = around₀; within = within₀; label = label₀; labels = labels₀ }) (g .form) a form k nest around within label labels
 
 abbrev walk-args-μ-loop : walk-args-lts.MeasureT-loop
-walk-args-μ-loop s column table nexts contexts names facts words at count nesting p before a₀ form₀ k₀ nest₀ around₀ within₀ label₀ labels₀ a form k nest around within label labels =
+walk-args-μ-loop s column tables store words p g a₀ form₀ k₀ nest₀ around₀ within₀ label₀ labels₀ a form k nest around within label labels =
     nest * suc maxArity + k
 
 walk-args-nothing-requires : (t : ℕ) → walk-args-lts.Need-nothing-requires (walk-args-calls t) (walk-args-at t) walk-args.Post walk-args-Inv-loop walk-args-μ-loop
@@ -80,11 +81,11 @@ walk-args-loop-less-2 t c = search needs
 walk-args-loop-again-2 : (t : ℕ) → walk-args-lts.Need-loop-again-2 (walk-args-calls t) (walk-args-at t) walk-args.Post walk-args-Inv-loop walk-args-μ-loop
 walk-args-loop-again-2 t c = going-inside _ _ _ _ _ _ _ _ _ _ _ _ _ _ _ _ _ _ _ (c .before .before .before .before .before .before .before .before .before .before .before .loop .inv) (c .before .before .before .before .before .before .before .before .before .before .loop-test .taken) _ (c .before .before .before .before .before .before .before .before .scope .ensures) _ (c .before .before .before .before .before .before .before .first-label .ensures) _ (c .before .before .before .before .before .before .next-step .ensures) (c .before .before .before .before .before .if2 .taken) (c .before .before .before .before .before .before .before .before .before .if1 .left) (c .if4 .taken)
 
-walk-args-sub-walk-args : (t : ℕ) → walk-args-lts.Need-sub-walk-args (walk-args-calls t) (walk-args-at t) walk-args.Post walk-args-Inv-loop walk-args-μ-loop
-walk-args-sub-walk-args t c = search needs
+walk-args-sub-t27 : (t : ℕ) → walk-args-lts.Need-sub-t27 (walk-args-calls t) (walk-args-at t) walk-args.Post walk-args-Inv-loop walk-args-μ-loop
+walk-args-sub-t27 t c = search needs
 
 walk-args-walk-args-requires : (t : ℕ) → walk-args-lts.Need-walk-args-requires (walk-args-calls t) (walk-args-at t) walk-args.Post walk-args-Inv-loop walk-args-μ-loop
-walk-args-walk-args-requires t c κs = (omega (arith, c .before .before .before .before .before .before .before .before .before .before .before .before .before .before .before .before .before .before .before .before .before .before .before .pre .0, c .before .before .before .before .before .before .before .before .before .before .before .loop .inv .causes .deep), (c .before .before .before .before .before .before .before .before .before .before .before .before .before .before .before .before .before .before .before .before .before .before .before .pre .1 .0, going-roomy _ _ _ _ _ _ _ _ _ _ _ _ _ _ _ _ _ _ _ (c .before .before .before .before .before .before .before .before .before .before .before .loop .inv) (c .before .before .before .before .before .before .before .before .before .before .loop-test .taken) _ (c .before .before .before .before .before .before .before .before .scope .ensures) _ (c .before .before .before .before .before .before .before .first-label .ensures) _ (c .before .before .before .before .before .before .next-step .ensures) (c .before .before .before .before .before .if2 .taken) (c .before .before .before .before .before .before .before .before .before .if1 .left) _, c .before .before .before .before .before .before .next-step .ensures .causes .few))
+walk-args-walk-args-requires t c κs = (omega (arith, c .before .before .before .before .before .before .before .before .before .before .before .before .before .before .before .before .before .before .pre .0, c .before .before .before .before .before .before .before .before .before .before .before .loop .inv .causes .deep), (c .before .before .before .before .before .before .before .before .before .before .before .before .before .before .before .before .before .before .pre .1 .0, c .before .before .before .before .before .before .before .before .before .before .before .before .before .before .before .before .before .before .pre .1 .1, going-roomy _ _ _ _ _ _ _ _ _ _ _ _ _ _ _ _ _ _ _ (c .before .before .before .before .before .before .before .before .before .before .before .loop .inv) (c .before .before .before .before .before .before .before .before .before .before .loop-test .taken) _ (c .before .before .before .before .before .before .before .before .scope .ensures) _ (c .before .before .before .before .before .before .before .first-label .ensures) _ (c .before .before .before .before .before .before .next-step .ensures) (c .before .before .before .before .before .if2 .taken) (c .before .before .before .before .before .before .before .before .before .if1 .left) _, c .before .before .before .before .before .before .next-step .ensures .causes .few))
 
 walk-args-both-requires : (t : ℕ) → walk-args-lts.Need-both-requires (walk-args-calls t) (walk-args-at t) walk-args.Post walk-args-Inv-loop walk-args-μ-loop
 walk-args-both-requires t c κs = search needs
@@ -132,7 +133,7 @@ pub +walk-args-spec : {M : Type 1} → statement M
     (walk-args-sub-nest t)
     (walk-args-loop-less-2 t)
     (walk-args-loop-again-2 t)
-    (walk-args-sub-walk-args t)
+    (walk-args-sub-t27 t)
     (walk-args-walk-args-requires t)
     (walk-args-both-requires t)
     (walk-args-sub-k-2 t)

@@ -8,19 +8,10 @@ slice-aggregate-fill : tie.Need-slice-aggregate-fill
 slice-aggregate-fill c = search needs
 
 fill-requires : tie.Need-fill-requires
-fill-requires c κs = (search needs, zeroed 131072, search needs, search needs)
-
-slice-aggregate-fill-2 : tie.Need-slice-aggregate-fill-2
-slice-aggregate-fill-2 c = search needs
-
-fill-requires-2 : tie.Need-fill-requires-2
-fill-requires-2 c κs = search needs
+fill-requires c κs = (search needs, zeroed 262144, search needs, search needs, search needs)
 
 slice-aggregate-judge-with : tie.Need-slice-aggregate-judge-with
 slice-aggregate-judge-with c = search needs
-
-slice-aggregate-judge-with-2 : tie.Need-slice-aggregate-judge-with-2
-slice-aggregate-judge-with-2 c = search needs
 
 judge-with-requires : tie.Need-judge-with-requires
 judge-with-requires c κs = search needs
@@ -34,9 +25,6 @@ judge-long-spec =
     (tie.spec
     slice-aggregate-fill
     fill-requires
-    slice-aggregate-fill-2
-    fill-requires-2
     slice-aggregate-judge-with
-    slice-aggregate-judge-with-2
     judge-with-requires
     returns)

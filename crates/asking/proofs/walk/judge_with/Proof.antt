@@ -7,8 +7,8 @@ use Rattle.asking.proofs.walk.judge_with.Tie as tie
 row-column-requires : tie.Need-row-column-requires
 row-column-requires c κs = search needs
 
-cast-t13 : tie.Need-cast-t13
-cast-t13 c = search needs
+cast-t11 : tie.Need-cast-t11
+cast-t11 c = search needs
 
 slice-aggregate-walk-args : tie.Need-slice-aggregate-walk-args
 slice-aggregate-walk-args c = search needs
@@ -22,4 +22,4 @@ returns c = judged-whole _ _ _ _ _ _ _ (c .walk-args .ensures)
 pub judge-with-spec : {M : Type 1} → statement M
 judge-with-spec =
     tie.close
-    (tie.spec row-column-requires cast-t13 slice-aggregate-walk-args walk-args-requires returns)
+    (tie.spec row-column-requires cast-t11 slice-aggregate-walk-args walk-args-requires returns)

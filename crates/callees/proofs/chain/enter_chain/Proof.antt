@@ -4,21 +4,23 @@ use native.Mathlib.Omega.{arith}
 use Prim.Native.Nat.{_-_}
 use Rattle.unfolding.specs.CalleeTerm.{maxLinks}
 use Rattle.callees.proofs.Going.{Upto, goes-fits, goes-room, upto-start, upto-turn, upto-whole}
+use Rattle.store.specs.Store.{held}
 use borrow.Author.Needs.{needs}
 use Rattle.callees.proofs.chain.enter_chain.Statement.{statement}
 use Rattle.callees.proofs.chain.enter_chain.Tie as tie
 
 abbrev Inv-loop : tie.InvT-loop
-Inv-loop facts orders heads d numbers₀ currents₀ outers₀ l₀ numbers currents outers l = Upto facts orders heads d l numbers currents outers
+Inv-loop store d numbers₀ currents₀ outers₀ l₀ numbers currents outers l =
+    Upto (held store) d l numbers currents outers
 
 abbrev μ-loop : tie.MeasureT-loop
-μ-loop facts orders heads d numbers₀ currents₀ outers₀ l₀ numbers currents outers l = maxLinks - l
+μ-loop store d numbers₀ currents₀ outers₀ l₀ numbers currents outers l = maxLinks - l
 
 start-chain-requires : tie.Need-start-chain-requires Inv-loop μ-loop
 start-chain-requires c κs = search needs
 
 loop-holds : tie.Need-loop-holds Inv-loop μ-loop
-loop-holds c = upto-start _ _ _ _ _ _ _ (search needs) (search needs) (search needs) (search needs) (c .before .before .before .before .before .before .start-chain .ensures)
+loop-holds c = upto-start _ _ _ _ _ (search needs) (search needs) (search needs) (search needs) (c .before .before .before .before .before .before .start-chain .ensures)
 
 goes-on-requires : tie.Need-goes-on-requires Inv-loop μ-loop
 goes-on-requires c κs = search needs
@@ -39,7 +41,7 @@ loop-less c =
 
 loop-again : tie.Need-loop-again Inv-loop μ-loop
 loop-again c =
-    upto-turn _ _ _ _ _ _ _ _ (c .before .before .before .before .before .before .before .before .before .before .before .before .before .before .loop .inv) _ _ _
+    upto-turn _ _ _ _ _ _ (c .before .before .before .before .before .before .before .before .before .before .before .before .before .before .loop .inv) _ _ _
     (sym (c .before .before .before .before .before .before .before .before .before .before .before .goes-on .ensures) ∙ c .before .before .before .before .before .before .before .before .before .before .if1 .taken)
     (c .before .before .before .before .before .before .enter-level .ensures) (search needs)
 
@@ -53,7 +55,7 @@ same-length-3 : tie.Need-same-length-3 Inv-loop μ-loop
 same-length-3 c = search needs
 
 returns : tie.Need-returns Inv-loop μ-loop
-returns c = upto-whole _ _ _ _ _ _ _ _ (c .before .before .before .before .loop .inv) (sym (c .before .goes-on .ensures) ∙ c .if1 .left)
+returns c = upto-whole _ _ _ _ _ _ (c .before .before .before .before .loop .inv) (sym (c .before .goes-on .ensures) ∙ c .if1 .left)
 
 pub enter-chain-spec : {M : Type 1} → statement M
 enter-chain-spec =

@@ -5,6 +5,7 @@ use native.Mathlib.Omega.{arith}
 use Prim.Native.Nat.{_≤_}
 use Rattle.limits.specs.Limits.{maxArity, maxDefinitions}
 use borrow.Author.Needs.{fits-under, needs}
+use borrow.Author.Needs.{needs}
 use Rattle.callees.proofs.chain.enter_level.Statement.{statement}
 use Rattle.callees.proofs.chain.enter_level.Tie as tie
 

@@ -24,10 +24,10 @@ same-length c = search needs
 
 returns : tie.Need-returns
 returns c =
-    link-there _ _ _ _ _ _ _ _ _ _ _ _ _ _ _ _ _ _ _ (c .before .before .before .before .before .code-of .ensures .0) (c .before .before .before .before .site-of .ensures .same) (c .before .before .substitute-string .ensures)
+    link-there _ _ _ _ _ _ _ _ _ _ _ _ _ _ _ (c .before .before .before .before .before .code-of .ensures .0) (c .before .before .before .before .site-of .ensures .same) (c .before .before .substitute-string .ensures)
 
 returns-2 : tie.Need-returns-2
-returns-2 c = link-none _ _ _ _ _ _ _ _ _ _ _ _ _ _ _ _ _ (sym (c .before .step-fits .ensures) ∙ c .if1 .left)
+returns-2 c = link-none _ _ _ _ _ _ _ _ _ _ _ _ _ (sym (c .before .step-fits .ensures) ∙ c .if1 .left)
 
 pub link-string-spec : {M : Type 1} → statement M
 link-string-spec =

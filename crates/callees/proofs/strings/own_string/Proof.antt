@@ -43,8 +43,9 @@ same-length c = search needs
 
 returns : tie.Need-returns
 returns c =
-    own-string _ _ _ _ _ _ _ _ _ _ _ _ _ _ _ _ _ _ (c .before .before .before .before .before .before .before .at-most .ensures) (c .before .before .before .before .before .before .at-most2 .ensures) (c .before .before .before .before .before .text-of .ensures)
-    (row-between (c .before .before .before .before .before .before .before .before .before .before .before .before .before .before .before .before .before .before .args .numbers .now) (c .before .before .before .before .before .before .before .before .before .before .before .before .before .before .before .before .before .before .args .k)) (c .before .before .text-string .ensures)
+    let start = c .before .before .before .before .before .before .before .before .before .before .before .before .before .before in
+    own-string _ _ _ _ _ _ _ _ _ _ _ _ _ _ _ _ (c .before .before .before .before .before .before .before .at-most .ensures) (c .before .before .before .before .before .before .at-most2 .ensures) (c .before .before .before .before .before .text-of .ensures)
+    (row-between (start .args .numbers .now) (start .args .k)) (c .before .before .text-string .ensures)
 
 pub own-string-spec : {M : Type 1} → statement M
 own-string-spec =

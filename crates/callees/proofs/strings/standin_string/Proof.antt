@@ -40,8 +40,9 @@ same-length c = search needs
 
 returns : tie.Need-returns
 returns c =
-    standin-string _ _ _ _ _ _ _ _ _ _ _ _ _ _ _ _ _ _ _ _ (c .before .before .before .before .before .before .at-most .ensures) (c .before .before .before .before .before .at-most2 .ensures)
-    (row-between (c .before .before .before .before .before .before .before .before .before .before .before .before .before .before .before .before .before .before .before .args .numbers .now) (c .before .before .before .before .before .before .before .before .before .before .before .before .before .before .before .before .before .before .before .args .l)) (c .before .before .link-string .ensures)
+    let start = c .before .before .before .before .before .before .before .before .before .before .before .before .before in
+    standin-string _ _ _ _ _ _ _ _ _ _ _ _ _ _ _ _ (c .before .before .before .before .before .before .at-most .ensures) (c .before .before .before .before .before .at-most2 .ensures)
+    (row-between (start .args .numbers .now) (start .args .l)) (c .before .before .link-string .ensures)
 
 pub standin-string-spec : {M : Type 1} → statement M
 standin-string-spec =

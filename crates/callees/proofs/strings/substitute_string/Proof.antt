@@ -4,14 +4,14 @@ use borrow.Author.Needs.{needs}
 use Rattle.callees.proofs.strings.substitute_string.Statement.{statement}
 use Rattle.callees.proofs.strings.substitute_string.Tie as tie
 
-number-at-requires : tie.Need-number-at-requires
-number-at-requires c κs = search needs
+declared-at-requires : tie.Need-declared-at-requires
+declared-at-requires c κs = search needs
 
 cast-o : tie.Need-cast-o
 cast-o c = search needs
 
-number-at-requires-2 : tie.Need-number-at-requires-2
-number-at-requires-2 c κs = search needs
+name-at-requires : tie.Need-name-at-requires
+name-at-requires c κs = search needs
 
 find-substitution-requires : tie.Need-find-substitution-requires
 find-substitution-requires c κs = search needs
@@ -28,11 +28,11 @@ enum-told c = search needs
 implied-ref-requires : tie.Need-implied-ref-requires
 implied-ref-requires c κs = search needs
 
-mul-number-at : tie.Need-mul-number-at
-mul-number-at c = search needs
+mul-fact-at : tie.Need-mul-fact-at
+mul-fact-at c = search needs
 
-number-at-requires-3 : tie.Need-number-at-requires-3
-number-at-requires-3 c κs = search needs
+fact-at-requires : tie.Need-fact-at-requires
+fact-at-requires c κs = search needs
 
 arguments-of-requires : tie.Need-arguments-of-requires
 arguments-of-requires c κs = search needs
@@ -56,16 +56,16 @@ pub substitute-string-spec : {M : Type 1} → statement M
 substitute-string-spec =
     tie.close
     (tie.spec
-    number-at-requires
+    declared-at-requires
     cast-o
-    number-at-requires-2
+    name-at-requires
     find-substitution-requires
     enum-known-at
     text-string-requires
     enum-told
     implied-ref-requires
-    mul-number-at
-    number-at-requires-3
+    mul-fact-at
+    fact-at-requires
     arguments-of-requires
     implied-string-requires
     same-length

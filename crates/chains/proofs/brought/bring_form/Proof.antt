@@ -21,5 +21,4 @@ returns c = form-stored _ _ _ _ _ _ _ _ (search needs) (search needs) (search ne
 
 pub bring-form-spec : {M : Type 1} → statement M
 bring-form-spec =
-    tie.close
-    (tie.spec world-form-requires mul-words slice-write-words same-length returns)
+    tie.close (tie.spec world-form-requires mul-words slice-write-words same-length returns)

@@ -1,18 +1,17 @@
 -- `brought::brought_forms`: the first i definitions have their forms.
 use Prim.Native.Nat.{_-_}
-use Rattle.context.specs.Store.{store}
 use Rattle.chains.proofs.Bringing.{Brings, brings-start, brings-turn, brings-whole}
+use Rattle.store.specs.Store.{held}
 use borrow.Author.Needs.{needs}
 use Rattle.chains.proofs.brought.brought_forms.Statement.{statement}
 use Rattle.chains.proofs.brought.brought_forms.Tie as tie
 
 abbrev Inv-loop : tie.InvT-loop
-Inv-loop file refs words₀ names facts contexts orders heads declared n first count i₀ words i =
-    Brings file refs (store names facts contexts orders heads) declared n first count words₀ words i
+Inv-loop file refs words₀ store n first count i₀ words i =
+    Brings file refs (held store) (held store .declared) n first count words₀ words i
 
 abbrev μ-loop : tie.MeasureT-loop
-μ-loop file refs words₀ names facts contexts orders heads declared n first count i₀ words i =
-    count - i
+μ-loop file refs words₀ store n first count i₀ words i = count - i
 
 loop-holds : tie.Need-loop-holds Inv-loop μ-loop
 loop-holds c = search (needs, brings-start)

@@ -4,38 +4,38 @@ use borrow.Author.Needs.{needs}
 use Rattle.chains.proofs.link.link_fits.Statement.{statement}
 use Rattle.chains.proofs.link.link_fits.Tie as tie
 
-mul-number-at : tie.Need-mul-number-at
-mul-number-at c = search needs
+mul-fact-at : tie.Need-mul-fact-at
+mul-fact-at c = search needs
 
-number-at-requires : tie.Need-number-at-requires
-number-at-requires c κs = search needs
+fact-at-requires : tie.Need-fact-at-requires
+fact-at-requires c κs = search needs
 
-mul-number-at-2 : tie.Need-mul-number-at-2
-mul-number-at-2 c = search needs
+mul-fact-at-2 : tie.Need-mul-fact-at-2
+mul-fact-at-2 c = search needs
 
-add-number-at : tie.Need-add-number-at
-add-number-at c = search needs
+add-fact-at : tie.Need-add-fact-at
+add-fact-at c = search needs
 
-number-at-requires-2 : tie.Need-number-at-requires-2
-number-at-requires-2 c κs = search needs
+fact-at-requires-2 : tie.Need-fact-at-requires-2
+fact-at-requires-2 c κs = search needs
 
-mul-number-at-3 : tie.Need-mul-number-at-3
-mul-number-at-3 c = search needs
+mul-fact-at-3 : tie.Need-mul-fact-at-3
+mul-fact-at-3 c = search needs
 
-add-number-at-2 : tie.Need-add-number-at-2
-add-number-at-2 c = search needs
+add-fact-at-2 : tie.Need-add-fact-at-2
+add-fact-at-2 c = search needs
 
-number-at-requires-3 : tie.Need-number-at-requires-3
-number-at-requires-3 c κs = search needs
+fact-at-requires-3 : tie.Need-fact-at-requires-3
+fact-at-requires-3 c κs = search needs
 
-mul-number-at-4 : tie.Need-mul-number-at-4
-mul-number-at-4 c = search needs
+mul-fact-at-4 : tie.Need-mul-fact-at-4
+mul-fact-at-4 c = search needs
 
-add-number-at-3 : tie.Need-add-number-at-3
-add-number-at-3 c = search needs
+add-fact-at-3 : tie.Need-add-fact-at-3
+add-fact-at-3 c = search needs
 
-number-at-requires-4 : tie.Need-number-at-requires-4
-number-at-requires-4 c κs = search needs
+fact-at-requires-4 : tie.Need-fact-at-requires-4
+fact-at-requires-4 c κs = search needs
 
 columns-fit-requires : tie.Need-columns-fit-requires
 columns-fit-requires c κs = search needs
@@ -47,16 +47,16 @@ pub link-fits-spec : {M : Type 1} → statement M
 link-fits-spec =
     tie.close
     (tie.spec
-    mul-number-at
-    number-at-requires
-    mul-number-at-2
-    add-number-at
-    number-at-requires-2
-    mul-number-at-3
-    add-number-at-2
-    number-at-requires-3
-    mul-number-at-4
-    add-number-at-3
-    number-at-requires-4
+    mul-fact-at
+    fact-at-requires
+    mul-fact-at-2
+    add-fact-at
+    fact-at-requires-2
+    mul-fact-at-3
+    add-fact-at-2
+    fact-at-requires-3
+    mul-fact-at-4
+    add-fact-at-3
+    fact-at-requires-4
     columns-fit-requires
     returns)

@@ -4,14 +4,14 @@ use borrow.Author.Needs.{needs}
 use Rattle.chains.proofs.link.module_of.Statement.{statement}
 use Rattle.chains.proofs.link.module_of.Tie as tie
 
-mul-number-at : tie.Need-mul-number-at
-mul-number-at c = search needs
+mul-fact-at : tie.Need-mul-fact-at
+mul-fact-at c = search needs
 
-add-number-at : tie.Need-add-number-at
-add-number-at c = search needs
+add-fact-at : tie.Need-add-fact-at
+add-fact-at c = search needs
 
-number-at-requires : tie.Need-number-at-requires
-number-at-requires c κs = search needs
+fact-at-requires : tie.Need-fact-at-requires
+fact-at-requires c κs = search needs
 
 cast-result : tie.Need-cast-result
 cast-result c = search needs
@@ -20,5 +20,4 @@ returns : tie.Need-returns
 returns c = search (needs, fits-via)
 
 pub module-of-spec : {M : Type 1} → statement M
-module-of-spec =
-    tie.close (tie.spec mul-number-at add-number-at number-at-requires cast-result returns)
+module-of-spec = tie.close (tie.spec mul-fact-at add-fact-at fact-at-requires cast-result returns)

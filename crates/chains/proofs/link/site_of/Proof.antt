@@ -4,29 +4,29 @@ use borrow.Author.Needs.{needs}
 use Rattle.chains.proofs.link.site_of.Statement.{statement}
 use Rattle.chains.proofs.link.site_of.Tie as tie
 
-mul-number-at : tie.Need-mul-number-at
-mul-number-at c = search needs
+mul-fact-at : tie.Need-mul-fact-at
+mul-fact-at c = search needs
 
-number-at-requires : tie.Need-number-at-requires
-number-at-requires c κs = search needs
+fact-at-requires : tie.Need-fact-at-requires
+fact-at-requires c κs = search needs
 
-mul-number-at-2 : tie.Need-mul-number-at-2
-mul-number-at-2 c = search needs
+mul-fact-at-2 : tie.Need-mul-fact-at-2
+mul-fact-at-2 c = search needs
 
-add-number-at : tie.Need-add-number-at
-add-number-at c = search needs
+add-fact-at : tie.Need-add-fact-at
+add-fact-at c = search needs
 
-number-at-requires-2 : tie.Need-number-at-requires-2
-number-at-requires-2 c κs = search needs
+fact-at-requires-2 : tie.Need-fact-at-requires-2
+fact-at-requires-2 c κs = search needs
 
-mul-number-at-3 : tie.Need-mul-number-at-3
-mul-number-at-3 c = search needs
+mul-fact-at-3 : tie.Need-mul-fact-at-3
+mul-fact-at-3 c = search needs
 
-add-number-at-2 : tie.Need-add-number-at-2
-add-number-at-2 c = search needs
+add-fact-at-2 : tie.Need-add-fact-at-2
+add-fact-at-2 c = search needs
 
-number-at-requires-3 : tie.Need-number-at-requires-3
-number-at-requires-3 c κs = search needs
+fact-at-requires-3 : tie.Need-fact-at-requires-3
+fact-at-requires-3 c κs = search needs
 
 site-by-requires : tie.Need-site-by-requires
 site-by-requires c κs = search (needs, fits-kind)
@@ -38,13 +38,13 @@ pub site-of-spec : {M : Type 1} → statement M
 site-of-spec =
     tie.close
     (tie.spec
-    mul-number-at
-    number-at-requires
-    mul-number-at-2
-    add-number-at
-    number-at-requires-2
-    mul-number-at-3
-    add-number-at-2
-    number-at-requires-3
+    mul-fact-at
+    fact-at-requires
+    mul-fact-at-2
+    add-fact-at
+    fact-at-requires-2
+    mul-fact-at-3
+    add-fact-at-2
+    fact-at-requires-3
     site-by-requires
     returns)

@@ -7,11 +7,11 @@ use Rattle.chains.proofs.world.outer_after.Tie as tie
 code-of-requires : tie.Need-code-of-requires
 code-of-requires c κs = search (needs, has-link)
 
-mul-number-at : tie.Need-mul-number-at
-mul-number-at c = search needs
+mul-fact-at : tie.Need-mul-fact-at
+mul-fact-at c = search needs
 
-number-at-requires : tie.Need-number-at-requires
-number-at-requires c κs = search needs
+fact-at-requires : tie.Need-fact-at-requires
+fact-at-requires c κs = search needs
 
 sub-result : tie.Need-sub-result
 sub-result c = search (needs, step-kind)
@@ -30,8 +30,8 @@ outer-after-spec =
     tie.close
     (tie.spec
     code-of-requires
-    mul-number-at
-    number-at-requires
+    mul-fact-at
+    fact-at-requires
     sub-result
     cast-result
     add-result

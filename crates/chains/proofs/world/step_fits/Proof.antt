@@ -4,14 +4,14 @@ use borrow.Author.Needs.{needs}
 use Rattle.chains.proofs.world.step_fits.Statement.{statement}
 use Rattle.chains.proofs.world.step_fits.Tie as tie
 
-mul-number-at : tie.Need-mul-number-at
-mul-number-at c = search needs
+mul-fact-at : tie.Need-mul-fact-at
+mul-fact-at c = search needs
 
-add-number-at : tie.Need-add-number-at
-add-number-at c = search needs
+add-fact-at : tie.Need-add-fact-at
+add-fact-at c = search needs
 
-number-at-requires : tie.Need-number-at-requires
-number-at-requires c κs = search needs
+fact-at-requires : tie.Need-fact-at-requires
+fact-at-requires c κs = search needs
 
 returns : tie.Need-returns
 returns c = search (needs, step-unlinked)
@@ -35,9 +35,9 @@ pub step-fits-spec : {M : Type 1} → statement M
 step-fits-spec =
     tie.close
     (tie.spec
-    mul-number-at
-    add-number-at
-    number-at-requires
+    mul-fact-at
+    add-fact-at
+    fact-at-requires
     returns
     source-of-requires
     code-of-requires

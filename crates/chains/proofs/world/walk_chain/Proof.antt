@@ -1,18 +1,17 @@
 -- `world::walk_chain`: the tables show the world of the instances met so far.
 use mathlib.Core.Path.{_∙_, sym}
-use Rattle.context.specs.Store.{store}
 use Rattle.chains.proofs.Along.{Along, along-start, along-turn, along-whole, step-less}
+use Rattle.store.specs.Store.{held}
 use borrow.Author.Needs.{needs}
 use Rattle.chains.proofs.world.walk_chain.Statement.{statement}
 use Rattle.chains.proofs.world.walk_chain.Tie as tie
 
 abbrev Inv-loop : tie.InvT-loop
-Inv-loop file refs names facts contexts orders heads declared n numbers₀ inner₀ d outer₀ cur₀ numbers inner outer cur =
-    Along file refs inner₀ (store names facts contexts orders heads) declared n d numbers inner outer cur
+Inv-loop file refs store n numbers₀ inner₀ d outer₀ cur₀ numbers inner outer cur =
+    Along file refs inner₀ (held store) (held store .declared) n d numbers inner outer cur
 
 abbrev μ-loop : tie.MeasureT-loop
-μ-loop file refs names facts contexts orders heads declared n numbers₀ inner₀ d outer₀ cur₀ numbers inner outer cur =
-    cur
+μ-loop file refs store n numbers₀ inner₀ d outer₀ cur₀ numbers inner outer cur = cur
 
 loop-holds : tie.Need-loop-holds Inv-loop μ-loop
 loop-holds c = search (needs, along-start)

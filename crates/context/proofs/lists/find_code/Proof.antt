@@ -3,27 +3,28 @@ use mathlib.Core.Path.{_≡_, refl}
 use Rattle.context.proofs.Search.{code-end, code-hit, code-next}
 use Rattle.context.specs.Lookup.{codeNamed}
 use Rattle.context.specs.Parts.{part}
+use Rattle.store.specs.Store.{held}
 use borrow.Author.Needs.{needs}
 use Rattle.context.proofs.lists.find_code.Statement.{statement}
 use Rattle.context.proofs.lists.find_code.Tie as tie
 
 abbrev Inv-loop : tie.InvT-loop
-Inv-loop names contexts from end name i₀ i = codeNamed names name (part contexts i (end - i)) ≡ codeNamed names name (part contexts from (end - from))
+Inv-loop store from end name i₀ i = codeNamed (held store .names) name (part (held store .contexts) i (end - i)) ≡ codeNamed (held store .names) name (part (held store .contexts) from (end - from))
 
 abbrev μ-loop : tie.MeasureT-loop
-μ-loop names contexts from end name i₀ i = end - i
+μ-loop store from end name i₀ i = end - i
 
 loop-holds : tie.Need-loop-holds Inv-loop μ-loop
 loop-holds c = refl
 
-number-at-requires : tie.Need-number-at-requires Inv-loop μ-loop
-number-at-requires c κs = search needs
+context-at-requires : tie.Need-context-at-requires Inv-loop μ-loop
+context-at-requires c κs = search needs
 
-cast-number-at : tie.Need-cast-number-at Inv-loop μ-loop
-cast-number-at c = search needs
+cast-name-at : tie.Need-cast-name-at Inv-loop μ-loop
+cast-name-at c = search needs
 
-number-at-requires-2 : tie.Need-number-at-requires-2 Inv-loop μ-loop
-number-at-requires-2 c κs = search needs
+name-at-requires : tie.Need-name-at-requires Inv-loop μ-loop
+name-at-requires c κs = search needs
 
 returns : tie.Need-returns Inv-loop μ-loop
 returns c = search code-hit
@@ -47,9 +48,9 @@ find-code-spec =
     Inv-loop
     μ-loop
     loop-holds
-    number-at-requires
-    cast-number-at
-    number-at-requires-2
+    context-at-requires
+    cast-name-at
+    name-at-requires
     returns
     add-i
     loop-less

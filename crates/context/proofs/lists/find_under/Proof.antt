@@ -3,15 +3,16 @@ use mathlib.Core.Path.{_≡_, refl}
 use Rattle.context.proofs.Search.{under-end, under-hit, under-next}
 use Rattle.context.specs.Lookup.{codeUnder}
 use Rattle.theory.specs.Lists.{numbersFrom}
+use Rattle.store.specs.Store.{held}
 use borrow.Author.Needs.{needs}
 use Rattle.context.proofs.lists.find_under.Statement.{statement}
 use Rattle.context.proofs.lists.find_under.Tie as tie
 
 abbrev Inv-loop : tie.InvT-loop
-Inv-loop names facts from end instance name i₀ i = codeUnder names facts «instance» name (numbersFrom i (end - i)) ≡ codeUnder names facts «instance» name (numbersFrom from (end - from))
+Inv-loop store from end instance name i₀ i = codeUnder (held store .names) (held store .facts) «instance» name (numbersFrom i (end - i)) ≡ codeUnder (held store .names) (held store .facts) «instance» name (numbersFrom from (end - from))
 
 abbrev μ-loop : tie.MeasureT-loop
-μ-loop names facts from end instance name i₀ i = end - i
+μ-loop store from end instance name i₀ i = end - i
 
 loop-holds : tie.Need-loop-holds Inv-loop μ-loop
 loop-holds c = refl

@@ -1,3 +1,4 @@
+use Rattle.store.specs.Store.{held}
 use Prim.Native.Nat.{_+_, _-_}
 use mathlib.Core.Path.{_≡_, refl}
 use Rattle.context.proofs.Search.{place-end, place-hit, place-next}
@@ -7,16 +8,16 @@ use Rattle.context.proofs.lists.place_of.Statement.{statement}
 use Rattle.context.proofs.lists.place_of.Tie as tie
 
 abbrev Inv-loop : tie.InvT-loop
-Inv-loop xs from end x i₀ i = i + placeOf x (part xs i (end - i)) ≡ from + placeOf x (part xs from (end - from))
+Inv-loop store from end x i₀ i = i + placeOf x (part (held store .heads) i (end - i)) ≡ from + placeOf x (part (held store .heads) from (end - from))
 
 abbrev μ-loop : tie.MeasureT-loop
-μ-loop xs from end x i₀ i = end - i
+μ-loop store from end x i₀ i = end - i
 
 loop-holds : tie.Need-loop-holds Inv-loop μ-loop
 loop-holds c = refl
 
-number-at-requires : tie.Need-number-at-requires Inv-loop μ-loop
-number-at-requires c κs = search needs
+head-at-requires : tie.Need-head-at-requires Inv-loop μ-loop
+head-at-requires c κs = search needs
 
 returns : tie.Need-returns Inv-loop μ-loop
 returns c = search place-hit
@@ -40,7 +41,7 @@ place-of-spec =
     Inv-loop
     μ-loop
     loop-holds
-    number-at-requires
+    head-at-requires
     returns
     add-i
     loop-less

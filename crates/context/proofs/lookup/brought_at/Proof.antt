@@ -9,23 +9,23 @@ returns c = search not-brought
 mul-at : tie.Need-mul-at
 mul-at c = search needs
 
-number-at-requires : tie.Need-number-at-requires
-number-at-requires c κs = search needs
+fact-at-requires : tie.Need-fact-at-requires
+fact-at-requires c κs = search needs
 
 returns-2 : tie.Need-returns-2
 returns-2 c = search not-instance
 
-add-number-at : tie.Need-add-number-at
-add-number-at c = search needs
+add-fact-at : tie.Need-add-fact-at
+add-fact-at c = search needs
 
-number-at-requires-2 : tie.Need-number-at-requires-2
-number-at-requires-2 c κs = search needs
+fact-at-requires-2 : tie.Need-fact-at-requires-2
+fact-at-requires-2 c κs = search needs
 
-add-number-at-2 : tie.Need-add-number-at-2
-add-number-at-2 c = search needs
+add-fact-at-2 : tie.Need-add-fact-at-2
+add-fact-at-2 c = search needs
 
-number-at-requires-3 : tie.Need-number-at-requires-3
-number-at-requires-3 c κs = search needs
+fact-at-requires-3 : tie.Need-fact-at-requires-3
+fact-at-requires-3 c κs = search needs
 
 returns-3 : tie.Need-returns-3
 returns-3 c = search at-instance
@@ -36,10 +36,10 @@ brought-at-spec =
     (tie.spec
     returns
     mul-at
-    number-at-requires
+    fact-at-requires
     returns-2
-    add-number-at
-    number-at-requires-2
-    add-number-at-2
-    number-at-requires-3
+    add-fact-at
+    fact-at-requires-2
+    add-fact-at-2
+    fact-at-requires-3
     returns-3)

@@ -6,8 +6,8 @@ use Rattle.context.proofs.lookup.defines_name_in.Tie as tie
 returns : tie.Need-returns
 returns c = search no-definition
 
-number-at-requires : tie.Need-number-at-requires
-number-at-requires c κs = search needs
+name-at-requires : tie.Need-name-at-requires
+name-at-requires c κs = search needs
 
 find-entry-requires : tie.Need-find-entry-requires
 find-entry-requires c κs = search needs
@@ -29,7 +29,7 @@ defines-name-in-spec =
     tie.close
     (tie.spec
     returns
-    number-at-requires
+    name-at-requires
     find-entry-requires
     enum-told
     enum-told-2

@@ -3,22 +3,23 @@ use mathlib.Core.Path.{_≡_, refl}
 use Rattle.context.proofs.Search.{definition-end, definition-hit, definition-next}
 use Rattle.context.specs.Lookup.{definitionAmong}
 use Rattle.context.specs.Parts.{part}
-use Rattle.context.specs.Store.{contextCodes}
+use Rattle.context.specs.Entries.{contextCodes}
+use Rattle.store.specs.Store.{held}
 use borrow.Author.Needs.{needs}
 use Rattle.context.proofs.lookup.definition_among.Statement.{statement}
 use Rattle.context.proofs.lookup.definition_among.Tie as tie
 
 abbrev Inv-loop : tie.InvT-loop
-Inv-loop names contexts heads m from end i₀ i = definitionAmong names (contextCodes contexts heads m) (part contexts i (end - i)) ≡ definitionAmong names (contextCodes contexts heads m) (part contexts from (end - from))
+Inv-loop store m from end i₀ i = definitionAmong (held store .names) (contextCodes (held store .contexts) (held store .heads) m) (part (held store .contexts) i (end - i)) ≡ definitionAmong (held store .names) (contextCodes (held store .contexts) (held store .heads) m) (part (held store .contexts) from (end - from))
 
 abbrev μ-loop : tie.MeasureT-loop
-μ-loop names contexts heads m from end i₀ i = end - i
+μ-loop store m from end i₀ i = end - i
 
 loop-holds : tie.Need-loop-holds Inv-loop μ-loop
 loop-holds c = refl
 
-number-at-requires : tie.Need-number-at-requires Inv-loop μ-loop
-number-at-requires c κs = search needs
+context-at-requires : tie.Need-context-at-requires Inv-loop μ-loop
+context-at-requires c κs = search needs
 
 defines-name-in-requires : tie.Need-defines-name-in-requires Inv-loop μ-loop
 defines-name-in-requires c κs = search needs
@@ -45,7 +46,7 @@ definition-among-spec =
     Inv-loop
     μ-loop
     loop-holds
-    number-at-requires
+    context-at-requires
     defines-name-in-requires
     returns
     add-i

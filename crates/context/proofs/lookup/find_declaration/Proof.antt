@@ -3,21 +3,22 @@ use mathlib.Core.Path.{_≡_, refl}
 use Rattle.context.proofs.Search.{declared-end, declared-hit, declared-next}
 use Rattle.context.specs.Lookup.{declaredNamed}
 use Rattle.context.specs.Parts.{part}
+use Rattle.store.specs.Store.{held}
 use borrow.Author.Needs.{needs}
 use Rattle.context.proofs.lookup.find_declaration.Statement.{statement}
 use Rattle.context.proofs.lookup.find_declaration.Tie as tie
 
 abbrev Inv-loop : tie.InvT-loop
-Inv-loop names facts contexts from end name i₀ i = declaredNamed names facts name (part contexts i (end - i)) ≡ declaredNamed names facts name (part contexts from (end - from))
+Inv-loop store from end name i₀ i = declaredNamed (held store .names) (held store .facts) name (part (held store .contexts) i (end - i)) ≡ declaredNamed (held store .names) (held store .facts) name (part (held store .contexts) from (end - from))
 
 abbrev μ-loop : tie.MeasureT-loop
-μ-loop names facts contexts from end name i₀ i = end - i
+μ-loop store from end name i₀ i = end - i
 
 loop-holds : tie.Need-loop-holds Inv-loop μ-loop
 loop-holds c = refl
 
-number-at-requires : tie.Need-number-at-requires Inv-loop μ-loop
-number-at-requires c κs = search needs
+context-at-requires : tie.Need-context-at-requires Inv-loop μ-loop
+context-at-requires c κs = search needs
 
 declares-name-requires : tie.Need-declares-name-requires Inv-loop μ-loop
 declares-name-requires c κs = search needs
@@ -44,7 +45,7 @@ find-declaration-spec =
     Inv-loop
     μ-loop
     loop-holds
-    number-at-requires
+    context-at-requires
     declares-name-requires
     returns
     add-i

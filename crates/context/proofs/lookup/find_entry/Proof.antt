@@ -6,11 +6,11 @@ use Rattle.context.proofs.lookup.find_entry.Tie as tie
 mul-from : tie.Need-mul-from
 mul-from c = search needs
 
-add-number-at : tie.Need-add-number-at
-add-number-at c = search needs
+add-head-at : tie.Need-add-head-at
+add-head-at c = search needs
 
-number-at-requires : tie.Need-number-at-requires
-number-at-requires c κs = search needs
+head-at-requires : tie.Need-head-at-requires
+head-at-requires c κs = search needs
 
 cast-count : tie.Need-cast-count
 cast-count c = search needs
@@ -29,8 +29,8 @@ find-entry-spec =
     tie.close
     (tie.spec
     mul-from
-    add-number-at
-    number-at-requires
+    add-head-at
+    head-at-requires
     cast-count
     add-find-code
     find-code-requires

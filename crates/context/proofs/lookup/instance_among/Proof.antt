@@ -3,21 +3,22 @@ use mathlib.Core.Path.{_≡_, refl}
 use Rattle.context.proofs.Search.{instance-end, instance-hit, instance-next}
 use Rattle.context.specs.Lookup.{instanceAmong}
 use Rattle.context.specs.Parts.{part}
+use Rattle.store.specs.Store.{held}
 use borrow.Author.Needs.{needs}
 use Rattle.context.proofs.lookup.instance_among.Statement.{statement}
 use Rattle.context.proofs.lookup.instance_among.Tie as tie
 
 abbrev Inv-loop : tie.InvT-loop
-Inv-loop facts contexts from end i₀ i = instanceAmong facts (part contexts i (end - i)) ≡ instanceAmong facts (part contexts from (end - from))
+Inv-loop store from end i₀ i = instanceAmong (held store .facts) (part (held store .contexts) i (end - i)) ≡ instanceAmong (held store .facts) (part (held store .contexts) from (end - from))
 
 abbrev μ-loop : tie.MeasureT-loop
-μ-loop facts contexts from end i₀ i = end - i
+μ-loop store from end i₀ i = end - i
 
 loop-holds : tie.Need-loop-holds Inv-loop μ-loop
 loop-holds c = refl
 
-number-at-requires : tie.Need-number-at-requires Inv-loop μ-loop
-number-at-requires c κs = search needs
+context-at-requires : tie.Need-context-at-requires Inv-loop μ-loop
+context-at-requires c κs = search needs
 
 is-instance-requires : tie.Need-is-instance-requires Inv-loop μ-loop
 is-instance-requires c κs = search needs
@@ -44,7 +45,7 @@ instance-among-spec =
     Inv-loop
     μ-loop
     loop-holds
-    number-at-requires
+    context-at-requires
     is-instance-requires
     returns
     add-i

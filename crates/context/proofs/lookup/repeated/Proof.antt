@@ -4,27 +4,28 @@ use native.Mathlib.Omega.{arith}
 use Rattle.context.proofs.Repeats.{again, never-again, not-again}
 use Rattle.context.specs.Lookup.{repeatedIn}
 use Rattle.context.specs.Parts.{part}
+use Rattle.store.specs.Store.{held}
 use borrow.Author.Needs.{needs}
 use Rattle.context.proofs.lookup.repeated.Statement.{statement}
 use Rattle.context.proofs.lookup.repeated.Tie as tie
 
 abbrev Inv-loop : tie.InvT-loop
-Inv-loop names contexts from end i₀ i = repeatedIn names (part contexts i (end - i)) ≡ repeatedIn names (part contexts from (end - from))
+Inv-loop store from end i₀ i = repeatedIn (held store .names) (part (held store .contexts) i (end - i)) ≡ repeatedIn (held store .names) (part (held store .contexts) from (end - from))
 
 abbrev μ-loop : tie.MeasureT-loop
-μ-loop names contexts from end i₀ i = end - i
+μ-loop store from end i₀ i = end - i
 
 loop-holds : tie.Need-loop-holds Inv-loop μ-loop
 loop-holds c = refl
 
-number-at-requires : tie.Need-number-at-requires Inv-loop μ-loop
-number-at-requires c κs = search needs
+context-at-requires : tie.Need-context-at-requires Inv-loop μ-loop
+context-at-requires c κs = search needs
 
-cast-number-at : tie.Need-cast-number-at Inv-loop μ-loop
-cast-number-at c = search needs
+cast-name-at : tie.Need-cast-name-at Inv-loop μ-loop
+cast-name-at c = search needs
 
-number-at-requires-2 : tie.Need-number-at-requires-2 Inv-loop μ-loop
-number-at-requires-2 c κs = search needs
+name-at-requires : tie.Need-name-at-requires Inv-loop μ-loop
+name-at-requires c κs = search needs
 
 add-find-code : tie.Need-add-find-code Inv-loop μ-loop
 add-find-code c = search needs
@@ -60,9 +61,9 @@ repeated-spec =
     Inv-loop
     μ-loop
     loop-holds
-    number-at-requires
-    cast-number-at
-    number-at-requires-2
+    context-at-requires
+    cast-name-at
+    name-at-requires
     add-find-code
     find-code-requires
     enum-told

@@ -7,14 +7,14 @@ use Rattle.entering.proofs.implied.declared_number.Tie as tie
 is-declared-requires : tie.Need-is-declared-requires
 is-declared-requires c κs = search needs
 
-mul-number-at : tie.Need-mul-number-at
-mul-number-at c = search needs
+mul-fact-at : tie.Need-mul-fact-at
+mul-fact-at c = search needs
 
-add-number-at : tie.Need-add-number-at
-add-number-at c = search needs
+add-fact-at : tie.Need-add-fact-at
+add-fact-at c = search needs
 
-number-at-requires : tie.Need-number-at-requires
-number-at-requires c κs = search needs
+fact-at-requires : tie.Need-fact-at-requires
+fact-at-requires c κs = search needs
 
 cast-d : tie.Need-cast-d
 cast-d c = search needs
@@ -33,9 +33,9 @@ declared-number-spec =
     tie.close
     (tie.spec
     is-declared-requires
-    mul-number-at
-    add-number-at
-    number-at-requires
+    mul-fact-at
+    add-fact-at
+    fact-at-requires
     cast-d
     returns
     returns-2

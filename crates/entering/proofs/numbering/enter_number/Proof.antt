@@ -4,11 +4,11 @@ use borrow.Author.Needs.{needs}
 use Rattle.entering.proofs.numbering.enter_number.Statement.{statement}
 use Rattle.entering.proofs.numbering.enter_number.Tie as tie
 
+order-at-requires : tie.Need-order-at-requires
+order-at-requires c κs = search needs
+
 number-at-requires : tie.Need-number-at-requires
 number-at-requires c κs = search needs
-
-number-at-requires-2 : tie.Need-number-at-requires-2
-number-at-requires-2 c κs = search needs
 
 put-number-requires : tie.Need-put-number-requires
 put-number-requires c κs = search needs
@@ -22,4 +22,4 @@ returns c = search set-at
 pub enter-number-spec : {M : Type 1} → statement M
 enter-number-spec =
     tie.close
-    (tie.spec number-at-requires number-at-requires-2 put-number-requires same-length returns)
+    (tie.spec order-at-requires number-at-requires put-number-requires same-length returns)

@@ -1,26 +1,27 @@
 -- `numbering::enter_numbers`: the names from i on have their numbers.
 use Rattle.entering.proofs.Entering.{Entering, entering-start, entering-turn, entering-whole}
+use Rattle.store.specs.Store.{held}
 use borrow.Author.Needs.{needs}
 use Rattle.entering.proofs.numbering.enter_numbers.Statement.{statement}
 use Rattle.entering.proofs.numbering.enter_numbers.Tie as tie
 
 abbrev Inv-loop : tie.InvT-loop
-Inv-loop orders heads q first numbers next₀ base i₀ next i = Entering orders base i₀ first numbers next₀ next i
+Inv-loop store q first numbers next₀ base i₀ next i = Entering (held store .orders) base i₀ first numbers next₀ next i
 
 abbrev μ-loop : tie.MeasureT-loop
-μ-loop orders heads q first numbers next₀ base i₀ next i = i
+μ-loop store q first numbers next₀ base i₀ next i = i
 
 mul-base : tie.Need-mul-base Inv-loop μ-loop
 mul-base c = search needs
 
-mul-number-at : tie.Need-mul-number-at Inv-loop μ-loop
-mul-number-at c = search needs
+mul-head-at : tie.Need-mul-head-at Inv-loop μ-loop
+mul-head-at c = search needs
 
-add-number-at : tie.Need-add-number-at Inv-loop μ-loop
-add-number-at c = search needs
+add-head-at : tie.Need-add-head-at Inv-loop μ-loop
+add-head-at c = search needs
 
-number-at-requires : tie.Need-number-at-requires Inv-loop μ-loop
-number-at-requires c κs = search needs
+head-at-requires : tie.Need-head-at-requires Inv-loop μ-loop
+head-at-requires c κs = search needs
 
 cast-i : tie.Need-cast-i Inv-loop μ-loop
 cast-i c = search needs
@@ -59,9 +60,9 @@ enter-numbers-spec =
     Inv-loop
     μ-loop
     mul-base
-    mul-number-at
-    add-number-at
-    number-at-requires
+    mul-head-at
+    add-head-at
+    head-at-requires
     cast-i
     loop-holds
     sub-i

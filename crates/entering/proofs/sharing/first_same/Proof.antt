@@ -6,19 +6,19 @@ use Rattle.entering.proofs.sharing.first_same.Statement.{statement}
 use Rattle.entering.proofs.sharing.first_same.Tie as tie
 
 abbrev Inv-loop : tie.InvT-loop
-Inv-loop names facts declared d o i₀ i = i ≤ d
+Inv-loop store d o i₀ i = i ≤ d
 
 abbrev μ-loop : tie.MeasureT-loop
-μ-loop names facts declared d o i₀ i = d - i
+μ-loop store d o i₀ i = d - i
 
-number-at-requires : tie.Need-number-at-requires Inv-loop μ-loop
-number-at-requires c κs = search needs
+declared-at-requires : tie.Need-declared-at-requires Inv-loop μ-loop
+declared-at-requires c κs = search needs
 
 loop-holds : tie.Need-loop-holds Inv-loop μ-loop
 loop-holds c = search needs
 
-number-at-requires-2 : tie.Need-number-at-requires-2 Inv-loop μ-loop
-number-at-requires-2 c κs = search needs
+declared-at-requires-2 : tie.Need-declared-at-requires-2 Inv-loop μ-loop
+declared-at-requires-2 c κs = search needs
 
 same-kind-requires : tie.Need-same-kind-requires Inv-loop μ-loop
 same-kind-requires c κs = search needs
@@ -44,9 +44,9 @@ first-same-spec =
     (tie.spec
     Inv-loop
     μ-loop
-    number-at-requires
+    declared-at-requires
     loop-holds
-    number-at-requires-2
+    declared-at-requires-2
     same-kind-requires
     returns
     add-i

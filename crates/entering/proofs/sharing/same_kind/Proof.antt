@@ -4,23 +4,23 @@ use borrow.Author.Needs.{needs}
 use Rattle.entering.proofs.sharing.same_kind.Statement.{statement}
 use Rattle.entering.proofs.sharing.same_kind.Tie as tie
 
-number-at-requires : tie.Need-number-at-requires
-number-at-requires c κs = search needs
+name-at-requires : tie.Need-name-at-requires
+name-at-requires c κs = search needs
 
-number-at-requires-2 : tie.Need-number-at-requires-2
-number-at-requires-2 c κs = search needs
+name-at-requires-2 : tie.Need-name-at-requires-2
+name-at-requires-2 c κs = search needs
 
-mul-number-at : tie.Need-mul-number-at
-mul-number-at c = search needs
+mul-fact-at : tie.Need-mul-fact-at
+mul-fact-at c = search needs
 
-number-at-requires-3 : tie.Need-number-at-requires-3
-number-at-requires-3 c κs = search needs
+fact-at-requires : tie.Need-fact-at-requires
+fact-at-requires c κs = search needs
 
-mul-number-at-2 : tie.Need-mul-number-at-2
-mul-number-at-2 c = search needs
+mul-fact-at-2 : tie.Need-mul-fact-at-2
+mul-fact-at-2 c = search needs
 
-number-at-requires-4 : tie.Need-number-at-requires-4
-number-at-requires-4 c κs = search needs
+fact-at-requires-2 : tie.Need-fact-at-requires-2
+fact-at-requires-2 c κs = search needs
 
 returns : tie.Need-returns
 returns c = search kinds-told
@@ -32,11 +32,11 @@ pub same-kind-spec : {M : Type 1} → statement M
 same-kind-spec =
     tie.close
     (tie.spec
-    number-at-requires
-    number-at-requires-2
-    mul-number-at
-    number-at-requires-3
-    mul-number-at-2
-    number-at-requires-4
+    name-at-requires
+    name-at-requires-2
+    mul-fact-at
+    fact-at-requires
+    mul-fact-at-2
+    fact-at-requires-2
     returns
     returns-2)

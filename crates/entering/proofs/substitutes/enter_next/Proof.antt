@@ -17,8 +17,8 @@ same-length c = search needs
 returns : tie.Need-returns
 returns c = search substituted-copy
 
-number-at-requires : tie.Need-number-at-requires
-number-at-requires c κs = search needs
+declared-at-requires : tie.Need-declared-at-requires
+declared-at-requires c κs = search needs
 
 enter-substitute-requires : tie.Need-enter-substitute-requires
 enter-substitute-requires c κs = search needs
@@ -37,7 +37,7 @@ enter-next-spec =
     copy-form-requires
     same-length
     returns
-    number-at-requires
+    declared-at-requires
     enter-substitute-requires
     same-length-2
     returns-2)

@@ -1,19 +1,22 @@
 -- `substitutes::enter_substitutes`: the first d declarations have their forms.
 use Prim.Native.Nat.{_-_, _≤_}
-use Rattle.context.specs.Store.{contextCodes}
+use Rattle.context.specs.Entries.{contextCodes}
 use Rattle.entering.specs.Substitutes.{Substituted, around}
 use Rattle.entering.proofs.Substituting.{substituted-start, substituted-whole, substituted-length}
 use Rattle.entering.proofs.Copied.{substituted-now, substituted-next}
+use Rattle.store.specs.Store.{held}
 use borrow.Author.Needs.{needs}
 use Rattle.entering.proofs.substitutes.enter_substitutes.Statement.{statement}
 use Rattle.entering.proofs.substitutes.enter_substitutes.Tie as tie
 
 abbrev Inv-loop : tie.InvT-loop
-Inv-loop s refs numbers words names facts contexts heads declared n site q next₀ d₀ next d =
-    (d ≤ n) × Substituted (around s refs numbers words names facts contexts heads) site (contextCodes contexts heads q) declared d next₀ next
+Inv-loop s refs numbers words store n site q next₀ d₀ next d =
+    (d ≤ n)
+    × Substituted (around s refs numbers words (held store .names) (held store .facts) (held store .contexts) (held store .heads)) site
+    (contextCodes (held store .contexts) (held store .heads) q) (held store .declared) d next₀ next
 
 abbrev μ-loop : tie.MeasureT-loop
-μ-loop s refs numbers words names facts contexts heads declared n site q next₀ d₀ next d = n - d
+μ-loop s refs numbers words store n site q next₀ d₀ next d = n - d
 
 loop-holds : tie.Need-loop-holds Inv-loop μ-loop
 loop-holds c = (search needs, search substituted-start)

@@ -4,17 +4,17 @@ use borrow.Author.Needs.{needs}
 use Rattle.entering.proofs.substitutes.of_kind.Statement.{statement}
 use Rattle.entering.proofs.substitutes.of_kind.Tie as tie
 
-mul-number-at : tie.Need-mul-number-at
-mul-number-at c = search needs
+mul-fact-at : tie.Need-mul-fact-at
+mul-fact-at c = search needs
 
-number-at-requires : tie.Need-number-at-requires
-number-at-requires c κs = search needs
+fact-at-requires : tie.Need-fact-at-requires
+fact-at-requires c κs = search needs
 
-mul-number-at-2 : tie.Need-mul-number-at-2
-mul-number-at-2 c = search needs
+mul-fact-at-2 : tie.Need-mul-fact-at-2
+mul-fact-at-2 c = search needs
 
-number-at-requires-2 : tie.Need-number-at-requires-2
-number-at-requires-2 c κs = search needs
+fact-at-requires-2 : tie.Need-fact-at-requires-2
+fact-at-requires-2 c κs = search needs
 
 returns : tie.Need-returns
 returns c = search (needs, kind-same)
@@ -25,10 +25,4 @@ returns-2 c = search (needs, kind-other)
 pub of-kind-spec : {M : Type 1} → statement M
 of-kind-spec =
     tie.close
-    (tie.spec
-    mul-number-at
-    number-at-requires
-    mul-number-at-2
-    number-at-requires-2
-    returns
-    returns-2)
+    (tie.spec mul-fact-at fact-at-requires mul-fact-at-2 fact-at-requires-2 returns returns-2)

@@ -20,4 +20,5 @@ returns : tie.Need-returns
 returns c = search (needs, placed)
 
 pub put-substitute-spec : {M : Type 1} → statement M
-put-substitute-spec = tie.close (tie.spec substitute-form-requires mul-next slice-write-next same-length returns)
+put-substitute-spec =
+    tie.close (tie.spec substitute-form-requires mul-next slice-write-next same-length returns)

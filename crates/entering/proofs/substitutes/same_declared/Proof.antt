@@ -4,17 +4,17 @@ use borrow.Author.Needs.{needs}
 use Rattle.entering.proofs.substitutes.same_declared.Statement.{statement}
 use Rattle.entering.proofs.substitutes.same_declared.Tie as tie
 
-number-at-requires : tie.Need-number-at-requires
-number-at-requires c κs = search needs
+name-at-requires : tie.Need-name-at-requires
+name-at-requires c κs = search needs
 
 mul-from : tie.Need-mul-from
 mul-from c = search needs
 
-add-number-at : tie.Need-add-number-at
-add-number-at c = search needs
+add-head-at : tie.Need-add-head-at
+add-head-at c = search needs
 
-number-at-requires-2 : tie.Need-number-at-requires-2
-number-at-requires-2 c κs = search needs
+head-at-requires : tie.Need-head-at-requires
+head-at-requires c κs = search needs
 
 cast-count : tie.Need-cast-count
 cast-count c = search needs
@@ -44,10 +44,10 @@ pub same-declared-spec : {M : Type 1} → statement M
 same-declared-spec =
     tie.close
     (tie.spec
-    number-at-requires
+    name-at-requires
     mul-from
-    add-number-at
-    number-at-requires-2
+    add-head-at
+    head-at-requires
     cast-count
     add-find-declaration
     find-declaration-requires

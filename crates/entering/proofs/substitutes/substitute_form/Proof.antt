@@ -4,8 +4,8 @@ use borrow.Author.Needs.{needs}
 use Rattle.entering.proofs.substitutes.substitute_form.Statement.{statement}
 use Rattle.entering.proofs.substitutes.substitute_form.Tie as tie
 
-number-at-requires : tie.Need-number-at-requires
-number-at-requires c κs = search needs
+name-at-requires : tie.Need-name-at-requires
+name-at-requires c κs = search needs
 
 find-substitution-requires : tie.Need-find-substitution-requires
 find-substitution-requires c κs = search needs
@@ -22,11 +22,11 @@ enum-told c = search needs
 implied-ref-requires : tie.Need-implied-ref-requires
 implied-ref-requires c κs = search needs
 
-mul-number-at : tie.Need-mul-number-at
-mul-number-at c = search needs
+mul-fact-at : tie.Need-mul-fact-at
+mul-fact-at c = search needs
 
-number-at-requires-2 : tie.Need-number-at-requires-2
-number-at-requires-2 c κs = search needs
+fact-at-requires : tie.Need-fact-at-requires
+fact-at-requires c κs = search needs
 
 arguments-of-requires : tie.Need-arguments-of-requires
 arguments-of-requires c κs = search needs
@@ -44,14 +44,14 @@ pub substitute-form-spec : {M : Type 1} → statement M
 substitute-form-spec =
     tie.close
     (tie.spec
-    number-at-requires
+    name-at-requires
     find-substitution-requires
     enum-known-at
     text-form-requires
     enum-told
     implied-ref-requires
-    mul-number-at
-    number-at-requires-2
+    mul-fact-at
+    fact-at-requires
     arguments-of-requires
     implied-form-requires
     returns

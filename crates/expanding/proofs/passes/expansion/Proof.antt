@@ -2,18 +2,18 @@
 use mathlib.Core.Path.{_≡_}
 use borrow.Author.Needs.{needs}
 use lib.ListN.{length}
-use Rattle.context.specs.Store.{store}
+use Rattle.store.specs.Store.{held}
 use Rattle.templates.specs.Taking.{workBytes}
 use Rattle.expanding.proofs.Looping.{Going, going-end, going-on, going-short, going-start}
 use Rattle.expanding.proofs.passes.expansion.Statement.{statement}
 use Rattle.expanding.proofs.passes.expansion.Tie as tie
 
 abbrev Inv-loop : tie.InvT-loop
-Inv-loop file refs names facts contexts orders heads declared n shapes a₀ len work₀ filled₀ size₀ k₀ a work filled size k =
-    Going file refs (store names facts contexts orders heads) declared n shapes a₀ len a size k × (length work ≡ workBytes) × (length filled ≡ workBytes)
+Inv-loop file refs store n shapes a₀ len work₀ filled₀ size₀ k₀ a work filled size k =
+    Going file refs (held store) (held store .declared) n shapes a₀ len a size k × (length work ≡ workBytes) × (length filled ≡ workBytes)
 
 abbrev μ-loop : tie.MeasureT-loop
-μ-loop file refs names facts contexts orders heads declared n shapes a₀ len work₀ filled₀ size₀ k₀ a work filled size k =
+μ-loop file refs store n shapes a₀ len work₀ filled₀ size₀ k₀ a work filled size k =
     k
 
 highest-call-requires : tie.Need-highest-call-requires Inv-loop μ-loop

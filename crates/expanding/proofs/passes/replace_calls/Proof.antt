@@ -36,7 +36,7 @@ returns-2 c =
     let rewritten = c .before .before .before .before .before .before in
     let fitting = rewritten .before .before .before .before in
     let made = fitting .before .before .before .before .before in
-    step-rewritten _ _ _ _ _ _ _ _ _ _ _ (made .template .ensures) (fitting .if2 .taken) _ _ (made .before .before .before .before .before .before .before .before .before .before .before .before .before .before .before .before .before .before .pre .2)
+    step-rewritten _ _ _ _ _ _ _ _ _ _ _ (made .template .ensures) (fitting .if2 .taken) _ _ (made .before .before .before .before .before .before .before .before .before .before .before .pre .2)
     (rewritten .rewrite .ensures)
 
 same-length-5 : tie.Need-same-length-5

@@ -1,5 +1,4 @@
 -- `query::expand_in`: memory to work in.
-use Rattle.tables.proofs.Naming.{zeroed}
 use borrow.Author.Needs.{needs}
 use Rattle.expanding.proofs.query.expand_in.Statement.{statement}
 use Rattle.expanding.proofs.query.expand_in.Tie as tie
@@ -17,7 +16,7 @@ slice-aggregate-expand-with-4 : tie.Need-slice-aggregate-expand-with-4
 slice-aggregate-expand-with-4 c = search needs
 
 expand-with-requires : tie.Need-expand-with-requires
-expand-with-requires c κs = (search needs, search needs, search needs, search needs, search needs, search needs, search (needs, zeroed), search needs)
+expand-with-requires c κs = (search needs, search needs, search needs, search needs, search needs, search needs, search needs)
 
 same-length : tie.Need-same-length
 same-length c = search needs

@@ -8,7 +8,7 @@ read-cause-requires : tie.Need-read-cause-requires
 read-cause-requires c κs = search needs
 
 returns : tie.Need-returns
-returns c = read-refused _ _ _ _ _ _ _ _ _ _ (λ i. c .before .before .before .before .before .before .before .before .before .before .before .before .before .before .before .shared-slice-known .given i .fits) _ _ _ _ (c .before .read-cause .ensures) (search needs) _
+returns c = read-refused _ _ _ _ _ (λ i. c .before .before .before .before .before .before .before .before .shared-slice-known .given i .fits) _ _ _ _ (c .before .read-cause .ensures) (search needs) _
 
 expand-string-requires : tie.Need-expand-string-requires
 expand-string-requires c κs = search needs
@@ -26,13 +26,13 @@ same-length-4 : tie.Need-same-length-4
 same-length-4 c = search needs
 
 returns-2 : tie.Need-returns-2
-returns-2 c = read-whole _ _ _ _ _ _ _ _ _ _ (λ i. c .before .before .before .before .before .before .before .before .before .before .before .before .before .before .before .before .before .before .before .before .before .before .before .before .before .before .before .before .before .before .shared-slice-known .given i .fits) _ _ _ _ (c .before .before .before .before .before .before .before .before .before .before .before .before .before .before .before .before .read-cause .ensures) (search needs) (search needs) _ _ _ (c .before .before .before .before .before .before .before .before .expand-string .ensures)
+returns-2 c = read-whole _ _ _ _ _ (λ i. c .before .before .before .before .before .before .before .before .before .before .before .before .before .before .before .before .before .before .before .before .before .before .before .shared-slice-known .given i .fits) _ _ _ _ (c .before .before .before .before .before .before .before .before .before .before .before .before .before .before .before .before .read-cause .ensures) (search needs) (search needs) _ _ _ (c .before .before .before .before .before .before .before .before .expand-string .ensures)
 
 returns-3 : tie.Need-returns-3
-returns-3 c = read-over _ _ _ _ _ _ _ _ _ _ (λ i. c .before .before .before .before .before .before .before .before .before .before .before .before .before .before .before .before .before .shared-slice-known .given i .fits) _ _ _ _ (c .before .before .before .read-cause .ensures) (search needs) (search needs) (search needs) _
+returns-3 c = read-over _ _ _ _ _ (λ i. c .before .before .before .before .before .before .before .before .before .before .shared-slice-known .given i .fits) _ _ _ _ (c .before .before .before .read-cause .ensures) (search needs) (search needs) (search needs) _
 
 returns-4 : tie.Need-returns-4
-returns-4 c = read-short _ _ _ _ _ _ _ _ _ _ (λ i. c .before .before .before .before .before .before .before .before .before .before .before .before .before .before .before .before .shared-slice-known .given i .fits) _ _ _ _ (c .before .before .read-cause .ensures) (search needs) (search needs) _
+returns-4 c = read-short _ _ _ _ _ (λ i. c .before .before .before .before .before .before .before .before .before .shared-slice-known .given i .fits) _ _ _ _ (c .before .before .read-cause .ensures) (search needs) (search needs) _
 
 pub expand-read-spec : {M : Type 1} → statement M
 expand-read-spec =

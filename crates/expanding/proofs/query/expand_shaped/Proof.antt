@@ -9,7 +9,7 @@ query-string-requires : tie.Need-query-string-requires
 query-string-requires c κs = search needs
 
 expand-read-requires : tie.Need-expand-read-requires
-expand-read-requires c κs = let pre = c .before .before .before .before .before .before .before .before .before .before .before .before .before .before .before .before .before .before .before .before .before .before .before .before .before .before .before .before .pre in (pre .3 .long, omega (arith, pre .4), omega (arith, pre .5), omega (arith, pre .7))
+expand-read-requires c κs = let pre = c .before .before .before .before .before .before .before .before .before .before .before .before .before .before .before .pre in (pre .3 .long, omega (arith, pre .4), omega (arith, pre .5), omega (arith, pre .6))
 
 same-length : tie.Need-same-length
 same-length c = search needs
@@ -25,8 +25,8 @@ same-length-4 c = search needs
 
 returns : tie.Need-returns
 returns c =
-    let pre = c .before .before .before .before .before .before .before .before .before .before .before .before .before .before .before .before .before .before .before .before .before .before .before .before .before .before .before .before .before .before .before .before .before .before .before .before .before .pre in
-    reply-read _ _ _ _ _ _ _ _ _ _ _ _ _ _ _ _ _ _ (c .before .before .before .before .before .before .before .before .expand-read .ensures) (pre .1) (pre .2) (pre .3) _ (pre .4) (c .before .before .before .before .before .before .before .before .before .before .before .before .before .before .before .before .before .before .before .query-string .ensures)
+    let pre = c .before .before .before .before .before .before .before .before .before .before .before .before .before .before .before .before .before .before .before .before .before .before .before .before .pre in
+    reply-read _ _ _ _ _ _ _ _ _ _ _ _ _ (c .before .before .before .before .before .before .before .before .expand-read .ensures) (pre .1) (pre .2) (pre .3) _ (pre .4) (c .before .before .before .before .before .before .before .before .before .before .before .before .before .before .before .query-string .ensures)
 
 pub expand-shaped-spec : {M : Type 1} → statement M
 expand-shaped-spec =

@@ -8,7 +8,7 @@ limit-cause-requires : tie.Need-limit-cause-requires
 limit-cause-requires c κs = search needs
 
 returns : tie.Need-returns
-returns c = reply-many _ _ _ _ _ _ _ _ _ _ _ _ (λ i. c .before .before .before .before .before .before .before .before .before .before .before .before .before .before .before .shared-slice-known .given i .fits) _ (search needs) _ (search needs)
+returns c = reply-many _ _ _ _ _ _ _ (λ i. c .before .before .before .before .before .before .before .before .shared-slice-known .given i .fits) _ (search needs) _ (search needs)
 
 shape-definitions-requires : tie.Need-shape-definitions-requires
 shape-definitions-requires c κs = search needs

@@ -6,14 +6,14 @@ use Rattle.instance_names.proofs.implied.itself_miscounted.Tie as tie
 stands-for-itself-requires : tie.Need-stands-for-itself-requires
 stands-for-itself-requires c κs = search needs
 
-number-at-requires : tie.Need-number-at-requires
-number-at-requires c κs = search needs
+name-at-requires : tie.Need-name-at-requires
+name-at-requires c κs = search needs
 
-mul-number-at : tie.Need-mul-number-at
-mul-number-at c = search needs
+mul-fact-at : tie.Need-mul-fact-at
+mul-fact-at c = search needs
 
-number-at-requires-2 : tie.Need-number-at-requires-2
-number-at-requires-2 c κs = search needs
+fact-at-requires : tie.Need-fact-at-requires
+fact-at-requires c κs = search needs
 
 kind-count-requires : tie.Need-kind-count-requires
 kind-count-requires c κs = search needs
@@ -35,9 +35,9 @@ itself-miscounted-spec =
     tie.close
     (tie.spec
     stands-for-itself-requires
-    number-at-requires
-    mul-number-at
-    number-at-requires-2
+    name-at-requires
+    mul-fact-at
+    fact-at-requires
     kind-count-requires
     look-up-requires
     count-differs-requires

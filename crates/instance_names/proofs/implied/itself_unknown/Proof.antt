@@ -6,8 +6,8 @@ use Rattle.instance_names.proofs.implied.itself_unknown.Tie as tie
 stands-for-itself-requires : tie.Need-stands-for-itself-requires
 stands-for-itself-requires c κs = search needs
 
-number-at-requires : tie.Need-number-at-requires
-number-at-requires c κs = search needs
+name-at-requires : tie.Need-name-at-requires
+name-at-requires c κs = search needs
 
 look-up-requires : tie.Need-look-up-requires
 look-up-requires c κs = search needs
@@ -26,7 +26,7 @@ itself-unknown-spec =
     tie.close
     (tie.spec
     stands-for-itself-requires
-    number-at-requires
+    name-at-requires
     look-up-requires
     no-ref-requires
     returns

@@ -9,8 +9,8 @@ is-declared-requires c κs = search needs
 cast-find-substitution : tie.Need-cast-find-substitution
 cast-find-substitution c = search needs
 
-number-at-requires : tie.Need-number-at-requires
-number-at-requires c κs = search needs
+name-at-requires : tie.Need-name-at-requires
+name-at-requires c κs = search needs
 
 find-substitution-requires : tie.Need-find-substitution-requires
 find-substitution-requires c κs = search needs
@@ -36,7 +36,7 @@ stands-for-itself-spec =
     (tie.spec
     is-declared-requires
     cast-find-substitution
-    number-at-requires
+    name-at-requires
     find-substitution-requires
     enum-told
     enum-told-2

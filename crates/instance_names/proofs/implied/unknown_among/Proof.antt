@@ -3,22 +3,23 @@ use Prim.Native.Nat.{_-_}
 use Rattle.context.specs.Parts.{part}
 use Rattle.instance_names.specs.Sites.{unknownAmong}
 use Rattle.instance_names.proofs.Turns.{known-end, known-hit, known-next}
+use Rattle.store.specs.Store.{held}
 use borrow.Author.Needs.{needs}
 use Rattle.instance_names.proofs.implied.unknown_among.Statement.{statement}
 use Rattle.instance_names.proofs.implied.unknown_among.Tie as tie
 
 abbrev Inv-loop : tie.InvT-loop
-Inv-loop file names facts contexts heads x from end i₀ i =
-    unknownAmong file names facts contexts heads x (part contexts i (end - i)) ≡ unknownAmong file names facts contexts heads x (part contexts from (end - from))
+Inv-loop file store x from end i₀ i =
+    unknownAmong file (held store .names) (held store .facts) (held store .contexts) (held store .heads) x (part (held store .contexts) i (end - i)) ≡ unknownAmong file (held store .names) (held store .facts) (held store .contexts) (held store .heads) x (part (held store .contexts) from (end - from))
 
 abbrev μ-loop : tie.MeasureT-loop
-μ-loop file names facts contexts heads x from end i₀ i = end - i
+μ-loop file store x from end i₀ i = end - i
 
 loop-holds : tie.Need-loop-holds Inv-loop μ-loop
 loop-holds c = refl
 
-number-at-requires : tie.Need-number-at-requires Inv-loop μ-loop
-number-at-requires c κs = search needs
+context-at-requires : tie.Need-context-at-requires Inv-loop μ-loop
+context-at-requires c κs = search needs
 
 itself-unknown-requires : tie.Need-itself-unknown-requires Inv-loop μ-loop
 itself-unknown-requires c κs = search needs
@@ -45,7 +46,7 @@ unknown-among-spec =
     Inv-loop
     μ-loop
     loop-holds
-    number-at-requires
+    context-at-requires
     itself-unknown-requires
     returns
     add-i

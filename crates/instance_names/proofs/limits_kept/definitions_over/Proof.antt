@@ -3,22 +3,23 @@ use Prim.Native.Nat.{_-_}
 use Rattle.context.specs.Parts.{part}
 use Rattle.instance_names.specs.Sites.{definitionsOver}
 use Rattle.instance_names.proofs.Turns.{definitions-end, definitions-hit, definitions-next}
+use Rattle.store.specs.Store.{held}
 use borrow.Author.Needs.{needs}
 use Rattle.instance_names.proofs.limits_kept.definitions_over.Statement.{statement}
 use Rattle.instance_names.proofs.limits_kept.definitions_over.Tie as tie
 
 abbrev Inv-loop : tie.InvT-loop
-Inv-loop facts orders from end params i₀ i =
-    definitionsOver facts params (part orders i (end - i)) ≡ definitionsOver facts params (part orders from (end - from))
+Inv-loop store from end params i₀ i =
+    definitionsOver (held store .facts) params (part (held store .orders) i (end - i)) ≡ definitionsOver (held store .facts) params (part (held store .orders) from (end - from))
 
 abbrev μ-loop : tie.MeasureT-loop
-μ-loop facts orders from end params i₀ i = end - i
+μ-loop store from end params i₀ i = end - i
 
 loop-holds : tie.Need-loop-holds Inv-loop μ-loop
 loop-holds c = refl
 
-number-at-requires : tie.Need-number-at-requires Inv-loop μ-loop
-number-at-requires c κs = search needs
+order-at-requires : tie.Need-order-at-requires Inv-loop μ-loop
+order-at-requires c κs = search needs
 
 definition-over-requires : tie.Need-definition-over-requires Inv-loop μ-loop
 definition-over-requires c κs = search needs
@@ -45,7 +46,7 @@ definitions-over-spec =
     Inv-loop
     μ-loop
     loop-holds
-    number-at-requires
+    order-at-requires
     definition-over-requires
     returns
     add-i

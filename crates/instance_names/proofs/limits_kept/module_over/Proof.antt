@@ -6,14 +6,14 @@ use Rattle.instance_names.proofs.limits_kept.module_over.Tie as tie
 returns : tie.Need-returns
 returns c = search (needs, module-absent)
 
-mul-number-at : tie.Need-mul-number-at
-mul-number-at c = search needs
+mul-head-at : tie.Need-mul-head-at
+mul-head-at c = search needs
 
-add-number-at : tie.Need-add-number-at
-add-number-at c = search needs
+add-head-at : tie.Need-add-head-at
+add-head-at c = search needs
 
-number-at-requires : tie.Need-number-at-requires
-number-at-requires c κs = search needs
+head-at-requires : tie.Need-head-at-requires
+head-at-requires c κs = search needs
 
 cast-n : tie.Need-cast-n
 cast-n c = search needs
@@ -41,9 +41,9 @@ module-over-spec =
     tie.close
     (tie.spec
     returns
-    mul-number-at
-    add-number-at
-    number-at-requires
+    mul-head-at
+    add-head-at
+    head-at-requires
     cast-n
     add-if2
     returns-2

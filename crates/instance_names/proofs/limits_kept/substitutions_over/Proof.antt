@@ -1,16 +1,17 @@
 use mathlib.Core.Path.{_≡_, refl}
 use Rattle.instance_names.specs.Sites.{substitutionsOver}
 use Rattle.instance_names.proofs.Turns.{over-end, over-hit, over-next, over-past}
+use Rattle.store.specs.Store.{held}
 use borrow.Author.Needs.{needs}
 use Rattle.instance_names.proofs.limits_kept.substitutions_over.Statement.{statement}
 use Rattle.instance_names.proofs.limits_kept.substitutions_over.Tie as tie
 
 abbrev Inv-loop : tie.InvT-loop
-Inv-loop file names facts contexts heads x at₀ left₀ at left =
-    substitutionsOver file names facts contexts heads x left at ≡ substitutionsOver file names facts contexts heads x (x .count) (x .at)
+Inv-loop file store x at₀ left₀ at left =
+    substitutionsOver file (held store .names) (held store .facts) (held store .contexts) (held store .heads) x left at ≡ substitutionsOver file (held store .names) (held store .facts) (held store .contexts) (held store .heads) x (x .count) (x .at)
 
 abbrev μ-loop : tie.MeasureT-loop
-μ-loop file names facts contexts heads x at₀ left₀ at left = left
+μ-loop file store x at₀ left₀ at left = left
 
 cast-left : tie.Need-cast-left Inv-loop μ-loop
 cast-left c = search needs

@@ -21,9 +21,6 @@ add-look-at c = search needs
 look-at-requires : tie.Need-look-at-requires
 look-at-requires c κs = search needs
 
-same-length : tie.Need-same-length
-same-length c = search needs
-
 returns : tie.Need-returns
 returns c = search (needs, look-one)
 
@@ -37,5 +34,4 @@ look-substitution-spec =
     add-params
     add-look-at
     look-at-requires
-    same-length
     returns)

@@ -1,25 +1,21 @@
-use mathlib.Core.Path.{_≡_, refl}
-use lib.ListN.{length}
 use Rattle.instance_names.proofs.LookTurns.{Looked, look-end, look-past, look-start, look-turn}
+use Rattle.store.specs.Store.{held}
 use borrow.Author.Needs.{needs}
 use Rattle.instance_names.proofs.names.look_substitutions.Statement.{statement}
 use Rattle.instance_names.proofs.names.look_substitutions.Tie as tie
 
 abbrev Inv-loop : tie.InvT-loop
-Inv-loop file names facts contexts heads refs₀ x at₀ left₀ unknown₀ miscounted₀ refs at left unknown miscounted =
-    Looked file names facts contexts heads x refs₀ refs at left unknown miscounted × (length refs ≡ length refs₀)
+Inv-loop file store refs₀ x at₀ left₀ unknown₀ miscounted₀ refs at left unknown miscounted =
+    Looked file (held store .names) (held store .facts) (held store .contexts) (held store .heads) x refs₀ refs at left unknown miscounted
 
 abbrev μ-loop : tie.MeasureT-loop
-μ-loop file names facts contexts heads refs₀ x at₀ left₀ unknown₀ miscounted₀ refs at left unknown miscounted = left
+μ-loop file store refs₀ x at₀ left₀ unknown₀ miscounted₀ refs at left unknown miscounted = left
 
 cast-left : tie.Need-cast-left Inv-loop μ-loop
 cast-left c = search needs
 
 loop-holds : tie.Need-loop-holds Inv-loop μ-loop
-loop-holds c = (look-start _ _ _ _ _ _ _, refl)
-
-same-length : tie.Need-same-length Inv-loop μ-loop
-same-length c = search needs
+loop-holds c = look-start _ _ _ _ _ _ _
 
 returns : tie.Need-returns Inv-loop μ-loop
 returns c = search (needs, look-past)
@@ -43,10 +39,7 @@ loop-less : tie.Need-loop-less Inv-loop μ-loop
 loop-less c = search needs
 
 loop-again : tie.Need-loop-again Inv-loop μ-loop
-loop-again c = (search look-turn, search needs)
-
-same-length-2 : tie.Need-same-length-2 Inv-loop μ-loop
-same-length-2 c = search needs
+loop-again c = search look-turn
 
 returns-2 : tie.Need-returns-2 Inv-loop μ-loop
 returns-2 c = search (needs, look-end)
@@ -59,7 +52,6 @@ look-substitutions-spec =
     μ-loop
     cast-left
     loop-holds
-    same-length
     returns
     look-substitution-requires
     either-requires
@@ -68,5 +60,4 @@ look-substitutions-spec =
     sub-left
     loop-less
     loop-again
-    same-length-2
     returns-2)

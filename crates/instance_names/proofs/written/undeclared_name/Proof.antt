@@ -1,16 +1,17 @@
 use mathlib.Core.Path.{_≡_, refl}
 use Rattle.instance_names.specs.Sites.{undeclaredIn}
 use Rattle.instance_names.proofs.Turns.{undeclared-end, undeclared-hit, undeclared-next, undeclared-past}
+use Rattle.store.specs.Store.{held}
 use borrow.Author.Needs.{needs}
 use Rattle.instance_names.proofs.written.undeclared_name.Statement.{statement}
 use Rattle.instance_names.proofs.written.undeclared_name.Tie as tie
 
 abbrev Inv-loop : tie.InvT-loop
-Inv-loop file names facts contexts heads x at₀ left₀ at left =
-    undeclaredIn file names facts contexts heads x left at ≡ undeclaredIn file names facts contexts heads x (x .count) (x .at)
+Inv-loop file store x at₀ left₀ at left =
+    undeclaredIn file (held store .names) (held store .facts) (held store .contexts) (held store .heads) x left at ≡ undeclaredIn file (held store .names) (held store .facts) (held store .contexts) (held store .heads) x (x .count) (x .at)
 
 abbrev μ-loop : tie.MeasureT-loop
-μ-loop file names facts contexts heads x at₀ left₀ at left = left
+μ-loop file store x at₀ left₀ at left = left
 
 cast-left : tie.Need-cast-left Inv-loop μ-loop
 cast-left c = search needs

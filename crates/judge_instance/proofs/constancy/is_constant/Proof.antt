@@ -6,11 +6,11 @@ use Rattle.judge_instance.proofs.constancy.is_constant.Tie as tie
 mul-from : tie.Need-mul-from
 mul-from c = search needs
 
-add-number-at : tie.Need-add-number-at
-add-number-at c = search needs
+add-head-at : tie.Need-add-head-at
+add-head-at c = search needs
 
-number-at-requires : tie.Need-number-at-requires
-number-at-requires c κs = search needs
+head-at-requires : tie.Need-head-at-requires
+head-at-requires c κs = search needs
 
 cast-count : tie.Need-cast-count
 cast-count c = search needs
@@ -27,14 +27,14 @@ returns c = search constant-not
 mul-first : tie.Need-mul-first
 mul-first c = search needs
 
-mul-number-at : tie.Need-mul-number-at
-mul-number-at c = search needs
+mul-head-at : tie.Need-mul-head-at
+mul-head-at c = search needs
 
-add-number-at-2 : tie.Need-add-number-at-2
-add-number-at-2 c = search needs
+add-head-at-2 : tie.Need-add-head-at-2
+add-head-at-2 c = search needs
 
-number-at-requires-2 : tie.Need-number-at-requires-2
-number-at-requires-2 c κs = search needs
+head-at-requires-2 : tie.Need-head-at-requires-2
+head-at-requires-2 c κs = search needs
 
 cast-size : tie.Need-cast-size
 cast-size c = search needs
@@ -53,16 +53,16 @@ is-constant-spec =
     tie.close
     (tie.spec
     mul-from
-    add-number-at
-    number-at-requires
+    add-head-at
+    head-at-requires
     cast-count
     add-variable-among
     variable-among-requires
     returns
     mul-first
-    mul-number-at
-    add-number-at-2
-    number-at-requires-2
+    mul-head-at
+    add-head-at-2
+    head-at-requires-2
     cast-size
     add-uneven-among
     uneven-among-requires

@@ -6,8 +6,8 @@ use Rattle.judge_instance.proofs.constancy.is_uneven.Tie as tie
 mul-level-at-zero : tie.Need-mul-level-at-zero
 mul-level-at-zero c = search needs
 
-shared-slice-read-level-at-zero : tie.Need-shared-slice-read-level-at-zero
-shared-slice-read-level-at-zero c = search needs
+element-copy-out-level-at-zero : tie.Need-element-copy-out-level-at-zero
+element-copy-out-level-at-zero c = search needs
 
 level-at-zero-requires : tie.Need-level-at-zero-requires
 level-at-zero-requires c κs = search needs
@@ -23,7 +23,7 @@ is-uneven-spec =
     tie.close
     (tie.spec
     mul-level-at-zero
-    shared-slice-read-level-at-zero
+    element-copy-out-level-at-zero
     level-at-zero-requires
     returns
     returns-2)

@@ -3,21 +3,22 @@ use mathlib.Core.Path.{_≡_, refl}
 use Rattle.context.specs.Parts.{part}
 use Rattle.judge_instance.specs.Constancy.{unevenAmong}
 use Rattle.judge_instance.proofs.ConstancyCases.{uneven-end, uneven-hit, uneven-next}
+use Rattle.store.specs.Store.{held}
 use borrow.Author.Needs.{needs}
 use Rattle.judge_instance.proofs.constancy.uneven_among.Statement.{statement}
 use Rattle.judge_instance.proofs.constancy.uneven_among.Tie as tie
 
 abbrev Inv-loop : tie.InvT-loop
-Inv-loop words orders from end i₀ i = unevenAmong words (part orders i (end - i)) ≡ unevenAmong words (part orders from (end - from))
+Inv-loop words store from end i₀ i = unevenAmong words (part (held store .orders) i (end - i)) ≡ unevenAmong words (part (held store .orders) from (end - from))
 
 abbrev μ-loop : tie.MeasureT-loop
-μ-loop words orders from end i₀ i = end - i
+μ-loop words store from end i₀ i = end - i
 
 loop-holds : tie.Need-loop-holds Inv-loop μ-loop
 loop-holds c = refl
 
-number-at-requires : tie.Need-number-at-requires Inv-loop μ-loop
-number-at-requires c κs = search needs
+order-at-requires : tie.Need-order-at-requires Inv-loop μ-loop
+order-at-requires c κs = search needs
 
 is-uneven-requires : tie.Need-is-uneven-requires Inv-loop μ-loop
 is-uneven-requires c κs = search needs
@@ -44,7 +45,7 @@ uneven-among-spec =
     Inv-loop
     μ-loop
     loop-holds
-    number-at-requires
+    order-at-requires
     is-uneven-requires
     returns
     add-i

@@ -3,21 +3,22 @@ use mathlib.Core.Path.{_≡_, refl}
 use Rattle.context.specs.Parts.{part}
 use Rattle.judge_instance.specs.Constancy.{variableAmong}
 use Rattle.judge_instance.proofs.ConstancyCases.{variable-end, variable-hit, variable-next}
+use Rattle.store.specs.Store.{held}
 use borrow.Author.Needs.{needs}
 use Rattle.judge_instance.proofs.constancy.variable_among.Statement.{statement}
 use Rattle.judge_instance.proofs.constancy.variable_among.Tie as tie
 
 abbrev Inv-loop : tie.InvT-loop
-Inv-loop facts contexts from end i₀ i = variableAmong facts (part contexts i (end - i)) ≡ variableAmong facts (part contexts from (end - from))
+Inv-loop store from end i₀ i = variableAmong (held store .facts) (part (held store .contexts) i (end - i)) ≡ variableAmong (held store .facts) (part (held store .contexts) from (end - from))
 
 abbrev μ-loop : tie.MeasureT-loop
-μ-loop facts contexts from end i₀ i = end - i
+μ-loop store from end i₀ i = end - i
 
 loop-holds : tie.Need-loop-holds Inv-loop μ-loop
 loop-holds c = refl
 
-number-at-requires : tie.Need-number-at-requires Inv-loop μ-loop
-number-at-requires c κs = search needs
+context-at-requires : tie.Need-context-at-requires Inv-loop μ-loop
+context-at-requires c κs = search needs
 
 is-variable-requires : tie.Need-is-variable-requires Inv-loop μ-loop
 is-variable-requires c κs = search needs
@@ -44,7 +45,7 @@ variable-among-spec =
     Inv-loop
     μ-loop
     loop-holds
-    number-at-requires
+    context-at-requires
     is-variable-requires
     returns
     add-i

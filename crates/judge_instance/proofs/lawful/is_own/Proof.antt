@@ -6,14 +6,14 @@ use Rattle.judge_instance.proofs.lawful.is_own.Tie as tie
 is-declared-requires : tie.Need-is-declared-requires
 is-declared-requires c κs = search needs
 
-number-at-requires : tie.Need-number-at-requires
-number-at-requires c κs = search needs
+name-at-requires : tie.Need-name-at-requires
+name-at-requires c κs = search needs
 
-mul-number-at : tie.Need-mul-number-at
-mul-number-at c = search needs
+mul-fact-at : tie.Need-mul-fact-at
+mul-fact-at c = search needs
 
-number-at-requires-2 : tie.Need-number-at-requires-2
-number-at-requires-2 c κs = search needs
+fact-at-requires : tie.Need-fact-at-requires
+fact-at-requires c κs = search needs
 
 find-declared-requires : tie.Need-find-declared-requires
 find-declared-requires c κs = search needs
@@ -32,9 +32,9 @@ is-own-spec =
     tie.close
     (tie.spec
     is-declared-requires
-    number-at-requires
-    mul-number-at
-    number-at-requires-2
+    name-at-requires
+    mul-fact-at
+    fact-at-requires
     find-declared-requires
     is-answer-requires
     returns

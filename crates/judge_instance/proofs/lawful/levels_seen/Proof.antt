@@ -3,17 +3,17 @@ use borrow.Author.Needs.{needs}
 use Rattle.judge_instance.proofs.lawful.levels_seen.Statement.{statement}
 use Rattle.judge_instance.proofs.lawful.levels_seen.Tie as tie
 
-mul-from : tie.Need-mul-from
-mul-from c = search needs
+add-head-at : tie.Need-add-head-at
+add-head-at c = search needs
 
-add-number-at : tie.Need-add-number-at
-add-number-at c = search needs
-
-number-at-requires : tie.Need-number-at-requires
-number-at-requires c κs = search needs
+head-at-requires : tie.Need-head-at-requires
+head-at-requires c κs = search needs
 
 cast-count : tie.Need-cast-count
 cast-count c = search needs
+
+mul-seen-among : tie.Need-mul-seen-among
+mul-seen-among c = search needs
 
 add-seen-among : tie.Need-add-seen-among
 add-seen-among c = search needs
@@ -28,10 +28,10 @@ pub levels-seen-spec : {M : Type 1} → statement M
 levels-seen-spec =
     tie.close
     (tie.spec
-    mul-from
-    add-number-at
-    number-at-requires
+    add-head-at
+    head-at-requires
     cast-count
+    mul-seen-among
     add-seen-among
     seen-among-requires
     returns)

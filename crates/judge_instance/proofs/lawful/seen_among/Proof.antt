@@ -1,35 +1,43 @@
-use Prim.Native.Nat.{_-_}
+use Prim.Native.Nat.{_-_, _*_}
+use Rattle.limits.specs.Sizes.{contextLength}
 use Rattle.context.specs.Parts.{part}
-use Rattle.context.specs.Store.{contextCodes}
+use Rattle.context.specs.Entries.{contextCodes}
 use Rattle.entering.specs.Substitutes.{around}
 use Rattle.judge_instance.proofs.LevelCases.{SeenLeft, seen-end, seen-next, seen-start}
+use Rattle.store.specs.Store.{held}
 use borrow.Author.Needs.{needs}
 use Rattle.judge_instance.proofs.lawful.seen_among.Statement.{statement}
 use Rattle.judge_instance.proofs.lawful.seen_among.Tie as tie
 
 abbrev Inv-loop : tie.InvT-loop
-Inv-loop s refs numbers words names facts contexts heads site q constant from end seen₀ i₀ seen i = SeenLeft (around s refs numbers words names facts contexts heads) site (contextCodes contexts heads q) constant seen (part contexts i (end - i)) (part contexts from (end - from))
+Inv-loop s refs numbers words store w end seen₀ i₀ seen i =
+    SeenLeft (around s refs numbers words (held store .names) (held store .facts) (held store .contexts) (held store .heads)) (w .site)
+    (contextCodes (held store .contexts) (held store .heads) (w .q)) (w .constant) seen (part (held store .contexts) i (end - i))
+    (part (held store .contexts) (w .q * contextLength) (end - w .q * contextLength))
 
 abbrev μ-loop : tie.MeasureT-loop
-μ-loop s refs numbers words names facts contexts heads site q constant from end seen₀ i₀ seen i = end - i
+μ-loop s refs numbers words store w end seen₀ i₀ seen i = end - i
+
+mul-i : tie.Need-mul-i Inv-loop μ-loop
+mul-i c = search needs
 
 loop-holds : tie.Need-loop-holds Inv-loop μ-loop
 loop-holds c = search seen-start
 
-number-at-requires : tie.Need-number-at-requires Inv-loop μ-loop
-number-at-requires c κs = search needs
+context-at-requires : tie.Need-context-at-requires Inv-loop μ-loop
+context-at-requires c κs = search needs
 
 level-found-requires : tie.Need-level-found-requires Inv-loop μ-loop
 level-found-requires c κs = search needs
 
-cast-number-at : tie.Need-cast-number-at Inv-loop μ-loop
-cast-number-at c = search needs
+cast-fact-at : tie.Need-cast-fact-at Inv-loop μ-loop
+cast-fact-at c = search needs
 
-mul-number-at : tie.Need-mul-number-at Inv-loop μ-loop
-mul-number-at c = search needs
+mul-fact-at : tie.Need-mul-fact-at Inv-loop μ-loop
+mul-fact-at c = search needs
 
-number-at-requires-2 : tie.Need-number-at-requires-2 Inv-loop μ-loop
-number-at-requires-2 c κs = search needs
+fact-at-requires : tie.Need-fact-at-requires Inv-loop μ-loop
+fact-at-requires c κs = search needs
 
 with-level-requires : tie.Need-with-level-requires Inv-loop μ-loop
 with-level-requires c κs = search needs
@@ -52,12 +60,13 @@ seen-among-spec =
     (tie.spec
     Inv-loop
     μ-loop
+    mul-i
     loop-holds
-    number-at-requires
+    context-at-requires
     level-found-requires
-    cast-number-at
-    mul-number-at
-    number-at-requires-2
+    cast-fact-at
+    mul-fact-at
+    fact-at-requires
     with-level-requires
     add-i
     loop-less

@@ -1,18 +1,19 @@
 use Prim.Native.Nat.{_+_, _*_, _≤_}
 use mathlib.Core.Path.{_≡_, refl}
 use Rattle.agree.specs.Parts.{namesAt}
-use Rattle.limits.specs.Limits.{fileBytes}
 use Rattle.judge_plain.proofs.Joins.{missing-end, missing-hit, missing-next}
 use Rattle.judge_plain.specs.Extending.{missingIn}
+use Rattle.limits.specs.Limits.{fileBytes}
+use Rattle.store.specs.Store.{held}
 use borrow.Author.Needs.{needs}
 use Rattle.judge_plain.proofs.extending.has_missing_name.Statement.{statement}
 use Rattle.judge_plain.proofs.extending.has_missing_name.Tie as tie
 
 abbrev Inv-loop : tie.InvT-loop
-Inv-loop file at count heads modules pos₀ left₀ pos left = (missingIn heads modules (namesAt file pos left) ≡ missingIn heads modules (namesAt file at count)) × (pos + 2 * left ≤ fileBytes)
+Inv-loop file store modules pos₀ left₀ pos left = (missingIn (held store .heads) modules (namesAt file pos left) ≡ missingIn (held store .heads) modules (namesAt file pos₀ left₀)) × (pos + 2 * left ≤ fileBytes)
 
 abbrev μ-loop : tie.MeasureT-loop
-μ-loop file at count heads modules pos₀ left₀ pos left = left
+μ-loop file store modules pos₀ left₀ pos left = left
 
 loop-holds : tie.Need-loop-holds Inv-loop μ-loop
 loop-holds c = (refl, search needs)

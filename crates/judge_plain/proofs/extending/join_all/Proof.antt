@@ -1,5 +1,5 @@
-use native.Mathlib.Omega.{arith}
 use lib.ListN.{length-take}
+use native.Mathlib.Omega.{arith}
 use borrow.Author.Needs.{needs}
 use Rattle.judge_plain.proofs.extending.join_all.Statement.{statement}
 use Rattle.judge_plain.proofs.extending.join_all.Tie as tie
@@ -28,15 +28,6 @@ same-length c = search needs
 same-length-2 : tie.Need-same-length-2
 same-length-2 c = search needs
 
-same-length-3 : tie.Need-same-length-3
-same-length-3 c = search needs
-
-same-length-4 : tie.Need-same-length-4
-same-length-4 c = search needs
-
-same-length-5 : tie.Need-same-length-5
-same-length-5 c = search needs
-
 returns : tie.Need-returns
 returns c = search needs
 
@@ -52,7 +43,4 @@ join-all-spec =
     join-modules-requires
     same-length
     same-length-2
-    same-length-3
-    same-length-4
-    same-length-5
     returns)

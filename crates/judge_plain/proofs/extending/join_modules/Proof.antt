@@ -1,4 +1,4 @@
-use Rattle.judge_plain.proofs.Extensions.{cleared, zeros-of}
+use Rattle.judge_plain.proofs.Extensions.{cleared}
 use borrow.Author.Needs.{needs}
 use Rattle.judge_plain.proofs.extending.join_modules.Statement.{statement}
 use Rattle.judge_plain.proofs.extending.join_modules.Tie as tie
@@ -10,22 +10,13 @@ clear-requires-2 : tie.Need-clear-requires-2
 clear-requires-2 c κs = search needs
 
 join-named-requires : tie.Need-join-named-requires
-join-named-requires c κs = (cleared _ _ _ _ _ _ _ (search needs) (cc) (cc), search needs)
+join-named-requires c κs = (cleared _ _ _ _ _ (search needs) (cc) (cc), search needs)
 
 same-length : tie.Need-same-length
 same-length c = search needs
 
 same-length-2 : tie.Need-same-length-2
 same-length-2 c = search needs
-
-same-length-3 : tie.Need-same-length-3
-same-length-3 c = search needs
-
-same-length-4 : tie.Need-same-length-4
-same-length-4 c = search needs
-
-same-length-5 : tie.Need-same-length-5
-same-length-5 c = search needs
 
 returns : tie.Need-returns
 returns c = search needs
@@ -39,7 +30,4 @@ join-modules-spec =
     join-named-requires
     same-length
     same-length-2
-    same-length-3
-    same-length-4
-    same-length-5
     returns)

@@ -2,20 +2,21 @@ use Prim.Native.Nat.{_+_, _*_, _≤_}
 use lib.ListN.{length}
 use mathlib.Core.Path.{_≡_, refl}
 use Rattle.agree.specs.Parts.{namesAt}
-use Rattle.limits.specs.Limits.{fileBytes}
 use Rattle.judge_plain.proofs.Joins.{Joining, join-done, join-ready, join-start, join-turn}
+use Rattle.limits.specs.Limits.{fileBytes}
+use Rattle.store.specs.Store.{held}
 use borrow.Author.Needs.{needs}
 use Rattle.judge_plain.proofs.extending.join_named.Statement.{statement}
 use Rattle.judge_plain.proofs.extending.join_named.Tie as tie
 
 abbrev Inv-loop : tie.InvT-loop
-Inv-loop file at count contexts₀ orders₀ heads₀ marks₀ tally₀ c pos₀ left₀ contexts orders heads marks tally pos left = Joining contexts₀ orders₀ heads₀ contexts orders heads marks tally c (namesAt file at count) (namesAt file pos left) × (pos + 2 * left ≤ fileBytes) × (length contexts ≡ length contexts₀) × (length orders ≡ length orders₀) × (length heads ≡ length heads₀) × (length marks ≡ length marks₀) × (length tally ≡ length tally₀)
+Inv-loop file store₀ marks₀ tally₀ c pos₀ left₀ store marks tally pos left = Joining (held store₀) (held store) marks tally c (namesAt file pos₀ left₀) (namesAt file pos left) × (pos + 2 * left ≤ fileBytes) × (length marks ≡ length marks₀) × (length tally ≡ length tally₀)
 
 abbrev μ-loop : tie.MeasureT-loop
-μ-loop file at count contexts₀ orders₀ heads₀ marks₀ tally₀ c pos₀ left₀ contexts orders heads marks tally pos left = left
+μ-loop file store₀ marks₀ tally₀ c pos₀ left₀ store marks tally pos left = left
 
 loop-holds : tie.Need-loop-holds Inv-loop μ-loop
-loop-holds c = (search join-start, search needs, refl, refl, refl, refl, refl)
+loop-holds c = (search join-start, search needs, refl, refl)
 
 number-at-requires : tie.Need-number-at-requires Inv-loop μ-loop
 number-at-requires c κs = search needs
@@ -36,22 +37,13 @@ loop-less : tie.Need-loop-less Inv-loop μ-loop
 loop-less c = search needs
 
 loop-again : tie.Need-loop-again Inv-loop μ-loop
-loop-again c = (search join-turn, search needs, search needs, search needs, search needs, search needs, search needs)
+loop-again c = (search join-turn, search needs, search needs, search needs)
 
 same-length : tie.Need-same-length Inv-loop μ-loop
 same-length c = search needs
 
 same-length-2 : tie.Need-same-length-2 Inv-loop μ-loop
 same-length-2 c = search needs
-
-same-length-3 : tie.Need-same-length-3 Inv-loop μ-loop
-same-length-3 c = search needs
-
-same-length-4 : tie.Need-same-length-4 Inv-loop μ-loop
-same-length-4 c = search needs
-
-same-length-5 : tie.Need-same-length-5 Inv-loop μ-loop
-same-length-5 c = search needs
 
 returns : tie.Need-returns Inv-loop μ-loop
 returns c = search join-done
@@ -72,7 +64,4 @@ join-named-spec =
     loop-again
     same-length
     same-length-2
-    same-length-3
-    same-length-4
-    same-length-5
     returns)

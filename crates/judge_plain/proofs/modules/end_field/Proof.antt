@@ -13,21 +13,11 @@ returns : tie.Need-returns
 returns c = (search answer-refused, search kept-before)
 
 end-module-requires : tie.Need-end-module-requires
-end-module-requires c κs = (search needs, search fewer-ended, search needs)
-
-same-length : tie.Need-same-length
-same-length c = search needs
+end-module-requires c κs = (search fewer-ended, search needs)
 
 returns-2 : tie.Need-returns-2
 returns-2 c = (search answer-taken, search kept-after)
 
 pub end-field-spec : {M : Type 1} → statement M
 end-field-spec =
-    tie.close
-    (tie.spec
-    end-cause-requires
-    refused-requires
-    returns
-    end-module-requires
-    same-length
-    returns-2)
+    tie.close (tie.spec end-cause-requires refused-requires returns end-module-requires returns-2)

@@ -9,17 +9,11 @@ module-cause-requires c κs = search needs
 refused-requires : tie.Need-refused-requires
 refused-requires c κs = search needs
 
-same-length : tie.Need-same-length
-same-length c = search needs
-
 returns : tie.Need-returns
 returns c = (search answer-refused, search kept-before)
 
 add-module-requires : tie.Need-add-module-requires
 add-module-requires c κs = search needs
-
-same-length-2 : tie.Need-same-length-2
-same-length-2 c = search needs
 
 returns-2 : tie.Need-returns-2
 returns-2 c = (search answer-taken, search kept-after)
@@ -27,11 +21,4 @@ returns-2 c = (search answer-taken, search kept-after)
 pub module-field-spec : {M : Type 1} → statement M
 module-field-spec =
     tie.close
-    (tie.spec
-    module-cause-requires
-    refused-requires
-    same-length
-    returns
-    add-module-requires
-    same-length-2
-    returns-2)
+    (tie.spec module-cause-requires refused-requires returns add-module-requires returns-2)

@@ -12,6 +12,9 @@ returns c = search define-early
 returns-2 : tie.Need-returns-2
 returns-2 c = search define-many
 
+cast-if3 : tie.Need-cast-if3
+cast-if3 c = search needs
+
 returns-3 : tie.Need-returns-3
 returns-3 c = search define-wide
 
@@ -46,6 +49,7 @@ definition-cause-spec =
     out-of-order-requires
     returns
     returns-2
+    cast-if3
     returns-3
     limit-at-requires
     is-passed-requires

@@ -15,39 +15,9 @@ returns c = search finish-wrong
 add-text-requires : tie.Need-add-text-requires
 add-text-requires c κs = search needs
 
-same-length : tie.Need-same-length
-same-length c = search needs
-
-same-length-2 : tie.Need-same-length-2
-same-length-2 c = search needs
-
-same-length-3 : tie.Need-same-length-3
-same-length-3 c = search needs
-
-same-length-4 : tie.Need-same-length-4
-same-length-4 c = search needs
-
-same-length-5 : tie.Need-same-length-5
-same-length-5 c = search needs
-
-same-length-6 : tie.Need-same-length-6
-same-length-6 c = search needs
-
 returns-2 : tie.Need-returns-2
 returns-2 c = search finish-added
 
 pub finish-definition-spec : {M : Type 1} → statement M
 finish-definition-spec =
-    tie.close
-    (tie.spec
-    text-cause-requires
-    refused-requires
-    returns
-    add-text-requires
-    same-length
-    same-length-2
-    same-length-3
-    same-length-4
-    same-length-5
-    same-length-6
-    returns-2)
+    tie.close (tie.spec text-cause-requires refused-requires returns add-text-requires returns-2)

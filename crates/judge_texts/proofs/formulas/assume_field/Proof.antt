@@ -6,11 +6,8 @@ use Rattle.judge_texts.proofs.formulas.assume_field.Tie as tie
 formula-field-requires : tie.Need-formula-field-requires
 formula-field-requires c κs = search needs
 
-same-length : tie.Need-same-length
-same-length c = search needs
-
 returns : tie.Need-returns
 returns c = search assume-judging
 
 pub assume-field-spec : {M : Type 1} → statement M
-assume-field-spec = tie.close (tie.spec formula-field-requires same-length returns)
+assume-field-spec = tie.close (tie.spec formula-field-requires returns)

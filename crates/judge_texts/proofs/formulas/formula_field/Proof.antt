@@ -21,9 +21,6 @@ last-cause-requires c κs = search needs
 answered-requires : tie.Need-answered-requires
 answered-requires c κs = search needs
 
-same-length : tie.Need-same-length
-same-length c = search needs
-
 returns-2 : tie.Need-returns-2
 returns-2 c = search formula-walked
 
@@ -37,5 +34,4 @@ formula-field-spec =
     read-text-requires
     last-cause-requires
     answered-requires
-    same-length
     returns-2)

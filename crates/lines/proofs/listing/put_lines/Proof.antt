@@ -1,15 +1,16 @@
 -- `put_lines`: line after line.
 use Prim.Native.Nat.{_-_}
 use Rattle.lines.proofs.Lines.{Lined, lined-done, lined-length, lined-start, lined-turn}
+use Rattle.store.specs.Store.{held}
 use borrow.Author.Needs.{needs}
 use Rattle.lines.proofs.listing.put_lines.Statement.{statement}
 use Rattle.lines.proofs.listing.put_lines.Tie as tie
 
 abbrev Inv-loop : tie.InvT-loop
-Inv-loop names facts words n out₀ at next₀ g₀ out next g = Lined names facts words n out₀ at out next g
+Inv-loop store words n out₀ at next₀ g₀ out next g = Lined (held store .names) (held store .facts) words n out₀ at out next g
 
 abbrev μ-loop : tie.MeasureT-loop
-μ-loop names facts words n out₀ at next₀ g₀ out next g = n - g
+μ-loop store words n out₀ at next₀ g₀ out next g = n - g
 
 loop-holds : tie.Need-loop-holds Inv-loop μ-loop
 loop-holds c = lined-start _ _ _ _ _ _

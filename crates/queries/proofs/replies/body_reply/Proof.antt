@@ -6,26 +6,26 @@ use Rattle.queries.proofs.replies.body_reply.Tie as tie
 returns : tie.Need-returns
 returns c = search no-body
 
-mul-number-at : tie.Need-mul-number-at
-mul-number-at c = search needs
+mul-fact-at : tie.Need-mul-fact-at
+mul-fact-at c = search needs
 
-add-number-at : tie.Need-add-number-at
-add-number-at c = search needs
+add-fact-at : tie.Need-add-fact-at
+add-fact-at c = search needs
 
-number-at-requires : tie.Need-number-at-requires
-number-at-requires c κs = search needs
+fact-at-requires : tie.Need-fact-at-requires
+fact-at-requires c κs = search needs
 
 wide-requires : tie.Need-wide-requires
 wide-requires c κs = search needs
 
-mul-number-at-2 : tie.Need-mul-number-at-2
-mul-number-at-2 c = search needs
+mul-fact-at-2 : tie.Need-mul-fact-at-2
+mul-fact-at-2 c = search needs
 
-add-number-at-2 : tie.Need-add-number-at-2
-add-number-at-2 c = search needs
+add-fact-at-2 : tie.Need-add-fact-at-2
+add-fact-at-2 c = search needs
 
-number-at-requires-2 : tie.Need-number-at-requires-2
-number-at-requires-2 c κs = search needs
+fact-at-requires-2 : tie.Need-fact-at-requires-2
+fact-at-requires-2 c κs = search needs
 
 wide-requires-2 : tie.Need-wide-requires-2
 wide-requires-2 c κs = search needs
@@ -38,12 +38,12 @@ body-reply-spec =
     tie.close
     (tie.spec
     returns
-    mul-number-at
-    add-number-at
-    number-at-requires
+    mul-fact-at
+    add-fact-at
+    fact-at-requires
     wide-requires
-    mul-number-at-2
-    add-number-at-2
-    number-at-requires-2
+    mul-fact-at-2
+    add-fact-at-2
+    fact-at-requires-2
     wide-requires-2
     returns-2)

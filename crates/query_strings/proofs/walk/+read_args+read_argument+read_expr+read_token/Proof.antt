@@ -42,55 +42,55 @@ use Rattle.query_strings.proofs.walk.+read_args+read_argument+read_expr
   close,
 }
 
-abbrev μ-read-args : Measures 11 read-args-kinds.ps ℕ
-μ-read-args κs a = a .1 .1 .1 .1 .1 .1 .1 .1 .1 .1 .1 .1 .1 .0 * 512 + a .1 .1 .1 .1 .1 .1 .1 .1 .1 .1 .1 .1 .0 + 3
+abbrev μ-read-args : Measures 7 read-args-kinds.ps ℕ
+μ-read-args κs a = a .1 .1 .1 .1 .1 .1 .1 .1 .0 .nest * 512 + a .1 .1 .1 .1 .1 .1 .1 .1 .0 .count + 3
 
-abbrev μ-read-argument : Measures 11 read-argument-kinds.ps ℕ
-μ-read-argument κs a = a .1 .1 .1 .1 .1 .1 .1 .1 .1 .1 .1 .1 .1 .0 * 512 + 2
+abbrev μ-read-argument : Measures 7 read-argument-kinds.ps ℕ
+μ-read-argument κs a = a .1 .1 .1 .1 .1 .1 .1 .1 .0 .nest * 512 + 2
 
-abbrev μ-read-expr : Measures 11 read-expr-kinds.ps ℕ
-μ-read-expr κs a = a .1 .1 .1 .1 .1 .1 .1 .1 .1 .1 .1 .1 .0 * 512 + 1
+abbrev μ-read-expr : Measures 7 read-expr-kinds.ps ℕ
+μ-read-expr κs a = a .1 .1 .1 .1 .1 .1 .1 .1 .0 .nest * 512 + 1
 
-abbrev μ-read-token : Measures 11 read-token-kinds.ps ℕ
-μ-read-token κs a = a .1 .1 .1 .1 .1 .1 .1 .1 .1 .1 .1 .1 .0 * 512
+abbrev μ-read-token : Measures 7 read-token-kinds.ps ℕ
+μ-read-token κs a = a .1 .1 .1 .1 .1 .1 .1 .1 .0 .nest * 512
 
-abbrev read-args-at : ℕ → In 11 read-args-kinds.ps
-read-args-at t = and 11 read-args-kinds.ps (is 11 read-args-kinds.ps μ-read-args t) read-args.Pre
+abbrev read-args-at : ℕ → In 7 read-args-kinds.ps
+read-args-at t = and 7 read-args-kinds.ps (is 7 read-args-kinds.ps μ-read-args t) read-args.Pre
 
-abbrev read-args-below : ℕ → In 11 read-args-kinds.ps
+abbrev read-args-below : ℕ → In 7 read-args-kinds.ps
 read-args-below t =
-    and 11 read-args-kinds.ps (falls 11 read-args-kinds.ps _<_ μ-read-args t) read-args.Pre
+    and 7 read-args-kinds.ps (falls 7 read-args-kinds.ps _<_ μ-read-args t) read-args.Pre
 
-abbrev read-argument-at : ℕ → In 11 read-argument-kinds.ps
+abbrev read-argument-at : ℕ → In 7 read-argument-kinds.ps
 read-argument-at t =
     and
-    11
+    7
     read-argument-kinds.ps
-    (is 11 read-argument-kinds.ps μ-read-argument t)
+    (is 7 read-argument-kinds.ps μ-read-argument t)
     read-argument.Pre
 
-abbrev read-argument-below : ℕ → In 11 read-argument-kinds.ps
+abbrev read-argument-below : ℕ → In 7 read-argument-kinds.ps
 read-argument-below t =
     and
-    11
+    7
     read-argument-kinds.ps
-    (falls 11 read-argument-kinds.ps _<_ μ-read-argument t)
+    (falls 7 read-argument-kinds.ps _<_ μ-read-argument t)
     read-argument.Pre
 
-abbrev read-expr-at : ℕ → In 11 read-expr-kinds.ps
-read-expr-at t = and 11 read-expr-kinds.ps (is 11 read-expr-kinds.ps μ-read-expr t) read-expr.Pre
+abbrev read-expr-at : ℕ → In 7 read-expr-kinds.ps
+read-expr-at t = and 7 read-expr-kinds.ps (is 7 read-expr-kinds.ps μ-read-expr t) read-expr.Pre
 
-abbrev read-expr-below : ℕ → In 11 read-expr-kinds.ps
+abbrev read-expr-below : ℕ → In 7 read-expr-kinds.ps
 read-expr-below t =
-    and 11 read-expr-kinds.ps (falls 11 read-expr-kinds.ps _<_ μ-read-expr t) read-expr.Pre
+    and 7 read-expr-kinds.ps (falls 7 read-expr-kinds.ps _<_ μ-read-expr t) read-expr.Pre
 
-abbrev read-token-at : ℕ → In 11 read-token-kinds.ps
+abbrev read-token-at : ℕ → In 7 read-token-kinds.ps
 read-token-at t =
-    and 11 read-token-kinds.ps (is 11 read-token-kinds.ps μ-read-token t) read-token.Pre
+    and 7 read-token-kinds.ps (is 7 read-token-kinds.ps μ-read-token t) read-token.Pre
 
-abbrev read-token-below : ℕ → In 11 read-token-kinds.ps
+abbrev read-token-below : ℕ → In 7 read-token-kinds.ps
 read-token-below t =
-    and 11 read-token-kinds.ps (falls 11 read-token-kinds.ps _<_ μ-read-token t) read-token.Pre
+    and 7 read-token-kinds.ps (falls 7 read-token-kinds.ps _<_ μ-read-token t) read-token.Pre
 
 abbrev read-args-calls : ℕ → read-args-lts.Claims
 read-args-calls t = (nothing-reads.Asked, nothing-reads.Learnt, bound-in-reads.Asked, bound-in-reads.Learnt, read-argument-below t, read-argument.Post, passed-reads.Asked, passed-reads.Learnt, read-args-below t, read-args.Post, joined-reads.Asked, joined-reads.Learnt, stopped-reads.Asked, stopped-reads.Learnt)
@@ -114,16 +114,16 @@ read-args-bound-in-requires : (t : ℕ) → read-args-lts.Need-bound-in-requires
 read-args-bound-in-requires t c κs = search needs
 
 read-args-read-argument-requires : (t : ℕ) → read-args-lts.Need-read-argument-requires (read-args-calls t) (read-args-at t) read-args.Post
-read-args-read-argument-requires t c κs = (omega (arith, c .before .before .before .before .before .before .before .before .before .before .before .before .before .before .pre .0), (c .before .before .before .before .before .before .before .before .before .before .before .before .before .before .pre .1 .0, under-low (c .before .before .before .before .before .before .before .before .before .before .before .before .before .before .args .k) (c .before .before .before .before .before .before .before .before .before .before .before .before .before .before .args .outer) (c .before .before .before .before .before .before .before .before .before .before .before .before .before .before .args .last) (c .before .before .before .before .before .before .before .before .before .before .before .before .before .before .args .nest) _ (c .before .bound-in .ensures) (c .before .before .before .before .before .before .before .before .before .before .before .before .before .before .pre .1 .1) (c .before .before .before .before .before .before .before .before .before .before .before .before .before .before .pre .1 .2)))
+read-args-read-argument-requires t c κs = (omega (arith, c .before .before .before .before .before .before .before .before .before .pre .0), (c .before .before .before .before .before .before .before .before .before .pre .1 .0, c .before .before .before .before .before .before .before .before .before .pre .1 .1, under-low (c .before .before .before .before .before .before .before .before .before .args .g .count) (c .before .before .before .before .before .before .before .before .before .args .g .around) (c .before .before .before .before .before .before .before .before .before .args .g .within) (c .before .before .before .before .before .before .before .before .before .args .g .nest) _ (c .before .bound-in .ensures) (c .before .before .before .before .before .before .before .before .before .pre .1 .2) (c .before .before .before .before .before .before .before .before .before .pre .1 .3)))
 
 read-args-passed-requires : (t : ℕ) → read-args-lts.Need-passed-requires (read-args-calls t) (read-args-at t) read-args.Post
 read-args-passed-requires t c κs = search needs
 
-read-args-sub-read-args : (t : ℕ) → read-args-lts.Need-sub-read-args (read-args-calls t) (read-args-at t) read-args.Post
-read-args-sub-read-args t c = search needs
+read-args-sub-t22 : (t : ℕ) → read-args-lts.Need-sub-t22 (read-args-calls t) (read-args-at t) read-args.Post
+read-args-sub-t22 t c = search needs
 
 read-args-read-args-requires : (t : ℕ) → read-args-lts.Need-read-args-requires (read-args-calls t) (read-args-at t) read-args.Post
-read-args-read-args-requires t c κs = (omega (arith, c .before .before .before .before .before .before .before .before .before .before .before .before .before .before .before .before .before .before .before .before .pre .0, c .before .before .before .before .before .before .before .before .if1 .left), (c .before .before .before .before .before .before .before .before .before .before .before .before .before .before .before .before .before .before .before .before .pre .1 .0, c .before .before .before .before .before .before .before .before .before .before .before .before .before .before .before .before .before .before .before .before .pre .1 .1, c .before .before .before .before .before .before .before .before .before .before .before .before .before .before .before .before .before .before .before .before .pre .1 .2))
+read-args-read-args-requires t c κs = (omega (arith, c .before .before .before .before .before .before .before .before .before .before .before .before .before .before .before .pre .0, c .before .before .before .before .before .before .before .before .if1 .left), (c .before .before .before .before .before .before .before .before .before .before .before .before .before .before .before .pre .1 .0, c .before .before .before .before .before .before .before .before .before .before .before .before .before .before .before .pre .1 .1, c .before .before .before .before .before .before .before .before .before .before .before .before .before .before .before .pre .1 .2, c .before .before .before .before .before .before .before .before .before .before .before .before .before .before .before .pre .1 .3))
 
 read-args-joined-requires : (t : ℕ) → read-args-lts.Need-joined-requires (read-args-calls t) (read-args-at t) read-args.Post
 read-args-joined-requires t c κs = search needs
@@ -150,7 +150,7 @@ read-argument-open-argument-requires : (t : ℕ) → read-argument-lts.Need-open
 read-argument-open-argument-requires t c κs = search needs
 
 read-argument-read-expr-requires : (t : ℕ) → read-argument-lts.Need-read-expr-requires (read-argument-calls t) (read-argument-at t) read-argument.Post
-read-argument-read-expr-requires t c κs = (omega (arith, c .before .before .before .before .before .before .before .before .before .before .before .before .before .before .before .before .before .before .pre .0), (c .before .before .before .before .before .before .before .before .before .before .before .before .before .before .before .before .before .before .pre .1 .0, c .before .before .before .before .before .before .before .before .before .before .before .before .before .before .before .before .before .before .pre .1 .1))
+read-argument-read-expr-requires t c κs = (omega (arith, c .before .before .before .before .before .before .before .before .before .before .before .before .before .pre .0), (c .before .before .before .before .before .before .before .before .before .before .before .before .before .pre .1 .0, c .before .before .before .before .before .before .before .before .before .before .before .before .before .pre .1 .1, c .before .before .before .before .before .before .before .before .before .before .before .before .before .pre .1 .2))
 
 read-argument-close-argument-requires : (t : ℕ) → read-argument-lts.Need-close-argument-requires (read-argument-calls t) (read-argument-at t) read-argument.Post
 read-argument-close-argument-requires t c κs = search needs
@@ -162,13 +162,13 @@ read-argument-returns : (t : ℕ) → read-argument-lts.Need-returns (read-argum
 read-argument-returns t c = argument-written _ _ _ _ _ _ _ _ _ _ _ _ _ _ _ _ _ _ _ _ (c .before .before .before .before .before .before .before .before .before .before .before .open-argument .ensures) (c .before .before .before .before .before .before .before .read-expr .ensures) (c .before .before .close-argument .ensures)
 
 read-argument-read-unwritten-requires : (t : ℕ) → read-argument-lts.Need-read-unwritten-requires (read-argument-calls t) (read-argument-at t) read-argument.Post
-read-argument-read-unwritten-requires t c κs = (c .before .before .before .before .before .before .before .before .before .before .before .before .before .pre .1 .0, c .before .before .before .before .before .before .before .before .before .before .before .before .before .pre .1 .1)
+read-argument-read-unwritten-requires t c κs = (c .before .before .before .before .before .before .before .before .pre .1 .0, c .before .before .before .before .before .before .before .before .pre .1 .1, c .before .before .before .before .before .before .before .before .pre .1 .2)
 
 read-argument-returns-2 : (t : ℕ) → read-argument-lts.Need-returns-2 (read-argument-calls t) (read-argument-at t) read-argument.Post
 read-argument-returns-2 t c = argument-skipped _ _ _ _ _ _ _ _ _ _ _ _ _ _ _ _ (c .before .before .is-written .ensures) (c .before .if1 .left) (c .read-unwritten .ensures)
 
 read-expr-read-unwritten-requires : (t : ℕ) → read-expr-lts.Need-read-unwritten-requires (read-expr-calls t) (read-expr-at t) read-expr.Post
-read-expr-read-unwritten-requires t c κs = (c .before .before .before .before .before .before .before .before .before .before .before .before .pre .1 .0, c .before .before .before .before .before .before .before .before .before .before .before .before .pre .1 .1)
+read-expr-read-unwritten-requires t c κs = (c .before .before .before .before .before .before .before .pre .1 .0, c .before .before .before .before .before .before .before .pre .1 .1, c .before .before .before .before .before .before .before .pre .1 .2)
 
 read-expr-returns : (t : ℕ) → read-expr-lts.Need-returns (read-expr-calls t) (read-expr-at t) read-expr.Post
 read-expr-returns t c = reads-past _ _ _ _ _ _ _ _ _ _ _ _ _ _ (c .before .if1 .taken) (c .read-unwritten .ensures)
@@ -180,13 +180,13 @@ read-expr-returns-2 : (t : ℕ) → read-expr-lts.Need-returns-2 (read-expr-call
 read-expr-returns-2 t c = reads-limit _ _ _ _ _ _ _ _ _ _ _ _ _ _ _ (c .before .if2 .taken) (c .stopped .ensures)
 
 read-expr-token-in-requires : (t : ℕ) → read-expr-lts.Need-token-in-requires (read-expr-calls t) (read-expr-at t) read-expr.Post
-read-expr-token-in-requires t c κs = c .before .before .before .before .before .before .before .before .before .before .before .before .before .pre .1 .0 .rows
+read-expr-token-in-requires t c κs = c .before .before .before .before .before .before .before .before .before .pre .1 .0
 
 read-expr-is-token-requires : (t : ℕ) → read-expr-lts.Need-is-token-requires (read-expr-calls t) (read-expr-at t) read-expr.Post
 read-expr-is-token-requires t c κs = search needs
 
 read-expr-arguments-in-requires : (t : ℕ) → read-expr-lts.Need-arguments-in-requires (read-expr-calls t) (read-expr-at t) read-expr.Post
-read-expr-arguments-in-requires t c κs = c .before .before .before .before .before .before .before .before .before .before .before .before .before .before .before .before .pre .1 .0 .rows
+read-expr-arguments-in-requires t c κs = c .before .before .before .before .before .before .before .before .before .before .before .before .pre .1 .0
 
 read-expr-cast-if4 : (t : ℕ) → read-expr-lts.Need-cast-if4 (read-expr-calls t) (read-expr-at t) read-expr.Post
 read-expr-cast-if4 t c = search needs
@@ -198,7 +198,7 @@ read-expr-returns-3 : (t : ℕ) → read-expr-lts.Need-returns-3 (read-expr-call
 read-expr-returns-3 t c = reads-count _ _ _ _ _ _ _ _ _ _ _ _ _ _ _ _ _ (c .before .before .before .before .before .token-in .ensures) (c .before .before .before .before .is-token .ensures) (c .before .before .before .if3 .taken) (c .before .before .before .before .before .before .if2 .left) _ (c .before .before .arguments-in .ensures) (search needs) (c .stopped2 .ensures)
 
 read-expr-read-token-requires : (t : ℕ) → read-expr-lts.Need-read-token-requires (read-expr-calls t) (read-expr-at t) read-expr.Post
-read-expr-read-token-requires t c κs = (omega (arith, c .before .before .before .before .before .before .before .before .before .before .before .before .before .before .before .before .before .before .before .pre .0), (c .before .before .before .before .before .before .before .before .before .before .before .before .before .before .before .before .before .before .before .pre .1 .0, c .before .before .before .before .before .before .before .before .before .before .before .before .before .before .before .before .before .before .before .pre .1 .1, stands _ _ _ _ _ _ (c .before .before .before .before .before .token-in .ensures) (c .before .before .before .before .is-token .ensures) (c .before .before .before .if3 .taken) (c .before .before .before .before .before .before .if2 .left) (c .before .before .arguments-in .ensures) (search needs)))
+read-expr-read-token-requires t c κs = (omega (arith, c .before .before .before .before .before .before .before .before .before .before .before .before .before .before .before .pre .0), (c .before .before .before .before .before .before .before .before .before .before .before .before .before .before .before .pre .1 .0, c .before .before .before .before .before .before .before .before .before .before .before .before .before .before .before .pre .1 .1, c .before .before .before .before .before .before .before .before .before .before .before .before .before .before .before .pre .1 .2, stands _ _ _ _ _ _ (c .before .before .before .before .before .token-in .ensures) (c .before .before .before .before .is-token .ensures) (c .before .before .before .if3 .taken) (c .before .before .before .before .before .before .if2 .left) (c .before .before .arguments-in .ensures) (search needs)))
 
 read-expr-same-length : (t : ℕ) → read-expr-lts.Need-same-length (read-expr-calls t) (read-expr-at t) read-expr.Post
 read-expr-same-length t c = search needs
@@ -213,19 +213,19 @@ read-expr-returns-5 : (t : ℕ) → read-expr-lts.Need-returns-5 (read-expr-call
 read-expr-returns-5 t c = reads-nothing _ _ _ _ _ _ _ _ _ _ _ _ _ _ _ _ _ (c .before .before .before .token-in .ensures) (c .before .before .is-token .ensures) (c .before .if3 .left) (c .stopped3 .ensures)
 
 read-token-read-head-requires : (t : ℕ) → read-token-lts.Need-read-head-requires (read-token-calls t) (read-token-at t) read-token.Post
-read-token-read-head-requires t c κs = c .before .before .before .before .before .before .before .before .before .before .before .before .pre .1 .0
+read-token-read-head-requires t c κs = c .before .before .before .before .before .before .before .pre .1 .1
 
 read-token-after-token-requires : (t : ℕ) → read-token-lts.Need-after-token-requires (read-token-calls t) (read-token-at t) read-token.Post
-read-token-after-token-requires t c κs = (c .before .before .before .before .before .before .before .before .before .before .before .before .before .before .before .pre .1 .2 .token, c .before .before .before .before .before .before .before .before .before .before .before .before .before .before .before .pre .1 .2 .there)
+read-token-after-token-requires t c κs = (c .before .before .before .before .before .before .before .before .before .before .pre .1 .3 .token, c .before .before .before .before .before .before .before .before .before .before .pre .1 .3 .there)
 
 read-token-bound-inside-requires : (t : ℕ) → read-token-lts.Need-bound-inside-requires (read-token-calls t) (read-token-at t) read-token.Post
-read-token-bound-inside-requires t c κs = (omega (arith, c .before .before .before .before .before .before .before .before .before .before .before .before .before .before .before .before .pre .1 .1, c .before .before .before .before .before .before .before .before .before .before .before .before .before .before .before .before .pre .1 .2 .deep), c .before .before .before .before .before .before .before .before .before .before .before .before .before .before .before .before .pre .1 .0 .rows)
+read-token-bound-inside-requires t c κs = (omega (arith, c .before .before .before .before .before .before .before .before .before .before .before .pre .1 .2, c .before .before .before .before .before .before .before .before .before .before .before .pre .1 .3 .deep), c .before .before .before .before .before .before .before .before .before .before .before .pre .1 .0)
 
-read-token-sub-read-args : (t : ℕ) → read-token-lts.Need-sub-read-args (read-token-calls t) (read-token-at t) read-token.Post
-read-token-sub-read-args t c = omega (arith, c .before .before .before .before .before .before .before .before .before .before .before .before .before .before .before .before .before .before .before .pre .1 .2 .deep)
+read-token-sub-t25 : (t : ℕ) → read-token-lts.Need-sub-t25 (read-token-calls t) (read-token-at t) read-token.Post
+read-token-sub-t25 t c = omega (arith, c .before .before .before .before .before .before .before .before .before .before .before .before .before .before .pre .1 .3 .deep)
 
 read-token-read-args-requires : (t : ℕ) → read-token-lts.Need-read-args-requires (read-token-calls t) (read-token-at t) read-token.Post
-read-token-read-args-requires t c κs = (omega (arith, c .before .before .before .before .before .before .before .before .before .before .before .before .before .before .before .before .before .before .before .pre .0, c .before .before .before .before .before .before .before .before .before .before .before .before .before .before .before .before .before .before .before .pre .1 .2 .deep, c .before .before .before .before .before .before .before .before .before .before .before .before .before .before .before .before .before .before .before .pre .1 .2 .few), (c .before .before .before .before .before .before .before .before .before .before .before .before .before .before .before .before .before .before .before .pre .1 .0, omega (arith, c .before .before .before .before .before .before .before .before .before .before .before .before .before .before .before .before .before .before .before .pre .1 .1), deeper-low (c .before .before .before .before .before .before .before .before .before .before .before .before .before .before .before .before .before .before .before .args .t) _ _ _ (c .before .before .bound-inside .ensures) (c .before .before .before .before .before .before .before .before .before .before .before .before .before .before .before .before .before .before .before .pre .1 .1) (λ z. omega (arith, c .before .before .before .before .before .before .before .before .before .before .before .before .before .before .before .before .before .before .before .pre .1 .2 .deep))))
+read-token-read-args-requires t c κs = (omega (arith, c .before .before .before .before .before .before .before .before .before .before .before .before .before .before .before .pre .0, c .before .before .before .before .before .before .before .before .before .before .before .before .before .before .before .pre .1 .3 .deep, c .before .before .before .before .before .before .before .before .before .before .before .before .before .before .before .pre .1 .3 .few), (c .before .before .before .before .before .before .before .before .before .before .before .before .before .before .before .pre .1 .0, c .before .before .before .before .before .before .before .before .before .before .before .before .before .before .before .pre .1 .1, omega (arith, c .before .before .before .before .before .before .before .before .before .before .before .before .before .before .before .pre .1 .2), deeper-low (c .before .before .before .before .before .before .before .before .before .before .before .before .before .before .before .args .t) _ _ _ (c .before .before .before .bound-inside .ensures) (c .before .before .before .before .before .before .before .before .before .before .before .before .before .before .before .pre .1 .2) (λ z. omega (arith, c .before .before .before .before .before .before .before .before .before .before .before .before .before .before .before .pre .1 .3 .deep))))
 
 read-token-over-requires : (t : ℕ) → read-token-lts.Need-over-requires (read-token-calls t) (read-token-at t) read-token.Post
 read-token-over-requires t c κs = search needs
@@ -234,7 +234,7 @@ read-token-same-length : (t : ℕ) → read-token-lts.Need-same-length (read-tok
 read-token-same-length t c = search needs
 
 read-token-returns : (t : ℕ) → read-token-lts.Need-returns (read-token-calls t) (read-token-at t) read-token.Post
-read-token-returns t c = reads-token _ _ _ _ _ _ _ _ _ _ _ _ _ _ _ _ _ _ _ _ _ _ (c .before .before .before .before .before .before .before .before .before .before .before .before .before .before .before .before .before .before .before .before .before .before .before .pre .1 .2) (c .before .before .before .before .before .before .before .before .before .before .read-head .ensures) (c .before .before .before .before .before .before .before .after-token .ensures) (c .before .before .before .before .before .before .bound-inside .ensures) (c .before .before .before .read-args .ensures) (c .over .ensures)
+read-token-returns t c = reads-token _ _ _ _ _ _ _ _ _ _ _ _ _ _ _ _ _ _ _ _ _ _ (c .before .before .before .before .before .before .before .before .before .before .before .before .before .before .before .before .before .before .before .pre .1 .3) (c .before .before .before .before .before .before .before .before .before .before .before .read-head .ensures) (c .before .before .before .before .before .before .before .before .after-token .ensures) (c .before .before .before .before .before .before .before .bound-inside .ensures) (c .before .before .before .read-args .ensures) (c .over .ensures)
 
 pub +read-args+read-argument+read-expr+read-token-spec : {M : Type 1} → statement M
 +read-args+read-argument+read-expr+read-token-spec =
@@ -246,7 +246,7 @@ pub +read-args+read-argument+read-expr+read-token-spec : {M : Type 1} → statem
     (read-args-bound-in-requires t)
     (read-args-read-argument-requires t)
     (read-args-passed-requires t)
-    (read-args-sub-read-args t)
+    (read-args-sub-t22 t)
     (read-args-read-args-requires t)
     (read-args-joined-requires t)
     (read-args-same-length t)
@@ -289,7 +289,7 @@ pub +read-args+read-argument+read-expr+read-token-spec : {M : Type 1} → statem
     (read-token-read-head-requires t)
     (read-token-after-token-requires t)
     (read-token-bound-inside-requires t)
-    (read-token-sub-read-args t)
+    (read-token-sub-t25 t)
     (read-token-read-args-requires t)
     (read-token-over-requires t)
     (read-token-same-length t)

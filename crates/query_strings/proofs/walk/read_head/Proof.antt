@@ -1,5 +1,4 @@
 use mathlib.Core.Path.{refl}
--- `walk::read_head`: the number that a token means, and its first symbols.
 use Rattle.query_strings.proofs.Reading.{head-put}
 use borrow.Author.Needs.{needs}
 use Rattle.query_strings.proofs.walk.read_head.Statement.{statement}

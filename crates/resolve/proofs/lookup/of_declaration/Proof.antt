@@ -3,14 +3,14 @@ use borrow.Author.Needs.{needs}
 use Rattle.resolve.proofs.lookup.of_declaration.Statement.{statement}
 use Rattle.resolve.proofs.lookup.of_declaration.Tie as tie
 
-mul-number-at : tie.Need-mul-number-at
-mul-number-at c = search needs
+mul-fact-at : tie.Need-mul-fact-at
+mul-fact-at c = search needs
 
-add-number-at : tie.Need-add-number-at
-add-number-at c = search needs
+add-fact-at : tie.Need-add-fact-at
+add-fact-at c = search needs
 
-number-at-requires : tie.Need-number-at-requires
-number-at-requires c κs = search needs
+fact-at-requires : tie.Need-fact-at-requires
+fact-at-requires c κs = search needs
 
 cast-if1 : tie.Need-cast-if1
 cast-if1 c = search needs
@@ -30,12 +30,4 @@ returns-2 c = search not-numbered
 pub of-declaration-spec : {M : Type 1} → statement M
 of-declaration-spec =
     tie.close
-    (tie.spec
-    mul-number-at
-    add-number-at
-    number-at-requires
-    cast-if1
-    cast-t10
-    add-t11
-    returns
-    returns-2)
+    (tie.spec mul-fact-at add-fact-at fact-at-requires cast-if1 cast-t10 add-t11 returns returns-2)

@@ -23,31 +23,31 @@ use Rattle.tokens.proofs.width.Reads as width-reads
 use Rattle.resolve.proofs.walk.+look_args+look_expr.{statement}
 use Rattle.resolve.proofs.walk.+look_args+look_expr.Tie.{close}
 
-abbrev μ-look-args : Measures 6 look-args-kinds.ps ℕ
-μ-look-args κs a = a .1 .1 .1 .1 .1 .1 .1 .1 .0 * 512 + a .1 .1 .1 .1 .1 .1 .1 .0 + 1
+abbrev μ-look-args : Measures 3 look-args-kinds.ps ℕ
+μ-look-args κs a = a .1 .1 .1 .1 .0 * 512 + a .1 .1 .1 .0 .left + 1
 
-abbrev μ-look-expr : Measures 6 look-expr-kinds.ps ℕ
-μ-look-expr κs a = a .1 .1 .1 .1 .1 .1 .1 .0 * 512
+abbrev μ-look-expr : Measures 3 look-expr-kinds.ps ℕ
+μ-look-expr κs a = a .1 .1 .1 .1 .0 * 512
 
-abbrev look-args-at : ℕ → In 6 look-args-kinds.ps
-look-args-at t = and 6 look-args-kinds.ps (is 6 look-args-kinds.ps μ-look-args t) look-args.Pre
+abbrev look-args-at : ℕ → In 3 look-args-kinds.ps
+look-args-at t = and 3 look-args-kinds.ps (is 3 look-args-kinds.ps μ-look-args t) look-args.Pre
 
-abbrev look-args-below : ℕ → In 6 look-args-kinds.ps
+abbrev look-args-below : ℕ → In 3 look-args-kinds.ps
 look-args-below t =
-    and 6 look-args-kinds.ps (falls 6 look-args-kinds.ps _<_ μ-look-args t) look-args.Pre
+    and 3 look-args-kinds.ps (falls 3 look-args-kinds.ps _<_ μ-look-args t) look-args.Pre
 
-abbrev look-expr-at : ℕ → In 6 look-expr-kinds.ps
-look-expr-at t = and 6 look-expr-kinds.ps (is 6 look-expr-kinds.ps μ-look-expr t) look-expr.Pre
+abbrev look-expr-at : ℕ → In 3 look-expr-kinds.ps
+look-expr-at t = and 3 look-expr-kinds.ps (is 3 look-expr-kinds.ps μ-look-expr t) look-expr.Pre
 
-abbrev look-expr-below : ℕ → In 6 look-expr-kinds.ps
+abbrev look-expr-below : ℕ → In 3 look-expr-kinds.ps
 look-expr-below t =
-    and 6 look-expr-kinds.ps (falls 6 look-expr-kinds.ps _<_ μ-look-expr t) look-expr.Pre
+    and 3 look-expr-kinds.ps (falls 3 look-expr-kinds.ps _<_ μ-look-expr t) look-expr.Pre
 
 abbrev look-args-calls : ℕ → look-args-lts.Claims
 look-args-calls t = (nothing-reads.Asked, nothing-reads.Learnt, bound-in-reads.Asked, bound-in-reads.Learnt, look-expr-below t, look-expr.Post, look-args-below t, look-args.Post, both-reads.Asked, both-reads.Learnt)
 
 abbrev look-expr-calls : ℕ → look-expr-lts.Claims
-look-expr-calls t = (nothing-reads.Asked, nothing-reads.Learnt, token-at-reads.Asked, token-at-reads.Learnt, is-token-reads.Asked, is-token-reads.Learnt, look-note-reads.Asked, look-note-reads.Learnt, width-reads.Asked, width-reads.Learnt, bound-inside-reads.Asked, bound-inside-reads.Learnt, arguments-reads.Asked, arguments-reads.Learnt, look-args-below t, look-args.Post, with-args-reads.Asked, with-args-reads.Learnt)
+look-expr-calls t = (nothing-reads.Asked, nothing-reads.Learnt, token-at-reads.Asked, token-at-reads.Learnt, is-token-reads.Asked, is-token-reads.Learnt, look-note-reads.Asked, look-note-reads.Learnt, width-reads.Asked, width-reads.Learnt, arguments-reads.Asked, arguments-reads.Learnt, bound-inside-reads.Asked, bound-inside-reads.Learnt, look-args-below t, look-args.Post, with-args-reads.Asked, with-args-reads.Learnt)
 
 look-args-nothing-requires : (t : ℕ) → look-args-lts.Need-nothing-requires (look-args-calls t) (look-args-at t) look-args.Post
 look-args-nothing-requires t c κs = search needs
@@ -61,17 +61,14 @@ look-args-bound-in-requires t c κs = search needs
 look-args-look-expr-requires : (t : ℕ) → look-args-lts.Need-look-expr-requires (look-args-calls t) (look-args-at t) look-args.Post
 look-args-look-expr-requires t c κs = (search needs, (search needs, search under-low))
 
-look-args-sub-look-args : (t : ℕ) → look-args-lts.Need-sub-look-args (look-args-calls t) (look-args-at t) look-args.Post
-look-args-sub-look-args t c = search needs
+look-args-sub-fewer : (t : ℕ) → look-args-lts.Need-sub-fewer (look-args-calls t) (look-args-at t) look-args.Post
+look-args-sub-fewer t c = search needs
 
 look-args-look-args-requires : (t : ℕ) → look-args-lts.Need-look-args-requires (look-args-calls t) (look-args-at t) look-args.Post
 look-args-look-args-requires t c κs = (search needs, (search needs, search needs, search needs))
 
 look-args-both-requires : (t : ℕ) → look-args-lts.Need-both-requires (look-args-calls t) (look-args-at t) look-args.Post
 look-args-both-requires t c κs = search needs
-
-look-args-same-length : (t : ℕ) → look-args-lts.Need-same-length (look-args-calls t) (look-args-at t) look-args.Post
-look-args-same-length t c = search needs
 
 look-args-returns-2 : (t : ℕ) → look-args-lts.Need-returns-2 (look-args-calls t) (look-args-at t) look-args.Post
 look-args-returns-2 t c = search w-more
@@ -97,11 +94,11 @@ look-expr-width-requires t c κs = search needs
 look-expr-add-next : (t : ℕ) → look-expr-lts.Need-add-next (look-expr-calls t) (look-expr-at t) look-expr.Post
 look-expr-add-next t c = search fits
 
-look-expr-bound-inside-requires : (t : ℕ) → look-expr-lts.Need-bound-inside-requires (look-expr-calls t) (look-expr-at t) look-expr.Post
-look-expr-bound-inside-requires t c κs = search needs
-
 look-expr-arguments-requires : (t : ℕ) → look-expr-lts.Need-arguments-requires (look-expr-calls t) (look-expr-at t) look-expr.Post
 look-expr-arguments-requires t c κs = search needs
+
+look-expr-bound-inside-requires : (t : ℕ) → look-expr-lts.Need-bound-inside-requires (look-expr-calls t) (look-expr-at t) look-expr.Post
+look-expr-bound-inside-requires t c κs = search needs
 
 look-expr-sub-look-args : (t : ℕ) → look-expr-lts.Need-sub-look-args (look-expr-calls t) (look-expr-at t) look-expr.Post
 look-expr-sub-look-args t c = search needs
@@ -114,9 +111,6 @@ look-expr-with-args-requires t c κs = search needs
 
 look-expr-nothing-requires-2 : (t : ℕ) → look-expr-lts.Need-nothing-requires-2 (look-expr-calls t) (look-expr-at t) look-expr.Post
 look-expr-nothing-requires-2 t c κs = search needs
-
-look-expr-same-length : (t : ℕ) → look-expr-lts.Need-same-length (look-expr-calls t) (look-expr-at t) look-expr.Post
-look-expr-same-length t c = search needs
 
 look-expr-returns-2 : (t : ℕ) → look-expr-lts.Need-returns-2 (look-expr-calls t) (look-expr-at t) look-expr.Post
 look-expr-returns-2 t c = search w-token
@@ -132,10 +126,9 @@ pub +look-args+look-expr-spec : {M : Type 1} → statement M
     (look-args-returns t)
     (look-args-bound-in-requires t)
     (look-args-look-expr-requires t)
-    (look-args-sub-look-args t)
+    (look-args-sub-fewer t)
     (look-args-look-args-requires t)
     (look-args-both-requires t)
-    (look-args-same-length t)
     (look-args-returns-2 t))
     λ t. look-expr-lts.spec (look-expr-calls t)
     (look-expr-at t)
@@ -147,12 +140,11 @@ pub +look-args+look-expr-spec : {M : Type 1} → statement M
     (look-expr-look-note-requires t)
     (look-expr-width-requires t)
     (look-expr-add-next t)
-    (look-expr-bound-inside-requires t)
     (look-expr-arguments-requires t)
+    (look-expr-bound-inside-requires t)
     (look-expr-sub-look-args t)
     (look-expr-look-args-requires t)
     (look-expr-with-args-requires t)
     (look-expr-nothing-requires-2 t)
-    (look-expr-same-length t)
     (look-expr-returns-2 t)
     (look-expr-returns-3 t)

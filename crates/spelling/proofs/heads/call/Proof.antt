@@ -3,8 +3,8 @@ use borrow.Author.Needs.{needs}
 use Rattle.spelling.proofs.heads.call.Statement.{statement}
 use Rattle.spelling.proofs.heads.call.Tie as tie
 
-shape-at-requires : tie.Need-shape-at-requires
-shape-at-requires c κs = search needs
+valid-shape-at-requires : tie.Need-valid-shape-at-requires
+valid-shape-at-requires c κs = search needs
 
 call-head-requires : tie.Need-call-head-requires
 call-head-requires c κs = search needs
@@ -25,7 +25,7 @@ pub call-spec : {M : Type 1} → statement M
 call-spec =
     tie.close
     (tie.spec
-    shape-at-requires
+    valid-shape-at-requires
     call-head-requires
     mask-of-requires
     leads-requires

@@ -25,46 +25,46 @@ use Rattle.tokens.proofs.width.Reads as width-reads
 use Rattle.spelling.proofs.walk.+write_args+write_argument+write_expr.{statement}
 use Rattle.spelling.proofs.walk.+write_args+write_argument+write_expr.Tie.{close}
 
-abbrev μ-write-args : Measures 7 write-args-kinds.ps ℕ
-μ-write-args κs a = a .1 .1 .1 .1 .1 .1 .1 .1 .1 .0 * 512 + a .1 .1 .1 .1 .1 .1 .1 .1 .0 + 2
+abbrev μ-write-args : Measures 6 write-args-kinds.ps ℕ
+μ-write-args κs a = a .1 .1 .1 .1 .1 .1 .1 .1 .0 * 512 + a .1 .1 .1 .1 .1 .1 .1 .0 + 2
 
-abbrev μ-write-argument : Measures 7 write-argument-kinds.ps ℕ
-μ-write-argument κs a = a .1 .1 .1 .1 .1 .1 .1 .1 .1 .0 * 512 + 1
+abbrev μ-write-argument : Measures 6 write-argument-kinds.ps ℕ
+μ-write-argument κs a = a .1 .1 .1 .1 .1 .1 .1 .1 .0 * 512 + 1
 
-abbrev μ-write-expr : Measures 7 write-expr-kinds.ps ℕ
-μ-write-expr κs a = a .1 .1 .1 .1 .1 .1 .1 .1 .0 * 512
+abbrev μ-write-expr : Measures 6 write-expr-kinds.ps ℕ
+μ-write-expr κs a = a .1 .1 .1 .1 .1 .1 .1 .0 * 512
 
-abbrev write-args-at : ℕ → In 7 write-args-kinds.ps
+abbrev write-args-at : ℕ → In 6 write-args-kinds.ps
 write-args-at t =
-    and 7 write-args-kinds.ps (is 7 write-args-kinds.ps μ-write-args t) write-args.Pre
+    and 6 write-args-kinds.ps (is 6 write-args-kinds.ps μ-write-args t) write-args.Pre
 
-abbrev write-args-below : ℕ → In 7 write-args-kinds.ps
+abbrev write-args-below : ℕ → In 6 write-args-kinds.ps
 write-args-below t =
-    and 7 write-args-kinds.ps (falls 7 write-args-kinds.ps _<_ μ-write-args t) write-args.Pre
+    and 6 write-args-kinds.ps (falls 6 write-args-kinds.ps _<_ μ-write-args t) write-args.Pre
 
-abbrev write-argument-at : ℕ → In 7 write-argument-kinds.ps
+abbrev write-argument-at : ℕ → In 6 write-argument-kinds.ps
 write-argument-at t =
     and
-    7
+    6
     write-argument-kinds.ps
-    (is 7 write-argument-kinds.ps μ-write-argument t)
+    (is 6 write-argument-kinds.ps μ-write-argument t)
     write-argument.Pre
 
-abbrev write-argument-below : ℕ → In 7 write-argument-kinds.ps
+abbrev write-argument-below : ℕ → In 6 write-argument-kinds.ps
 write-argument-below t =
     and
-    7
+    6
     write-argument-kinds.ps
-    (falls 7 write-argument-kinds.ps _<_ μ-write-argument t)
+    (falls 6 write-argument-kinds.ps _<_ μ-write-argument t)
     write-argument.Pre
 
-abbrev write-expr-at : ℕ → In 7 write-expr-kinds.ps
+abbrev write-expr-at : ℕ → In 6 write-expr-kinds.ps
 write-expr-at t =
-    and 7 write-expr-kinds.ps (is 7 write-expr-kinds.ps μ-write-expr t) write-expr.Pre
+    and 6 write-expr-kinds.ps (is 6 write-expr-kinds.ps μ-write-expr t) write-expr.Pre
 
-abbrev write-expr-below : ℕ → In 7 write-expr-kinds.ps
+abbrev write-expr-below : ℕ → In 6 write-expr-kinds.ps
 write-expr-below t =
-    and 7 write-expr-kinds.ps (falls 7 write-expr-kinds.ps _<_ μ-write-expr t) write-expr.Pre
+    and 6 write-expr-kinds.ps (falls 6 write-expr-kinds.ps _<_ μ-write-expr t) write-expr.Pre
 
 write-args-returns : (t : ℕ) → write-args-lts.Need-returns (
   write-argument-below t,

@@ -1,17 +1,18 @@
 -- `brought::fill_row`: the row is right from s on.
-use Rattle.tables.proofs.Bringing.{Row, row-end, row-inside, row-size, row-start, row-turn}
+use Rattle.tables.proofs.Bringing.{RowFrom, row-end, row-inside, row-size, row-start, row-turn}
+use Rattle.store.specs.Store.{held}
 use borrow.Author.Needs.{needs}
 use Rattle.tables.proofs.brought.fill_row.Statement.{statement}
 use Rattle.tables.proofs.brought.fill_row.Tie as tie
 
 abbrev Inv-loop : tie.InvT-loop
-Inv-loop names nexts₀ r name row found₀ s₀ nexts found s = Row names nexts₀ r s found nexts
+Inv-loop store nexts₀ r name row found₀ s₀ nexts found s = RowFrom (held store .names) nexts₀ r s found nexts
 
 abbrev μ-loop : tie.MeasureT-loop
-μ-loop names nexts₀ r name row found₀ s₀ nexts found s = s
+μ-loop store nexts₀ r name row found₀ s₀ nexts found s = s
 
-number-at-requires : tie.Need-number-at-requires Inv-loop μ-loop
-number-at-requires c κs = search needs
+name-at-requires : tie.Need-name-at-requires Inv-loop μ-loop
+name-at-requires c κs = search needs
 
 mul-row : tie.Need-mul-row Inv-loop μ-loop
 mul-row c = search needs
@@ -52,7 +53,7 @@ fill-row-spec =
     (tie.spec
     Inv-loop
     μ-loop
-    number-at-requires
+    name-at-requires
     mul-row
     add-row
     loop-holds

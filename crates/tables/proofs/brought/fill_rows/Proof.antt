@@ -1,16 +1,16 @@
--- `brought::fill_rows`: the rows below r are right.
 use Prim.Native.Nat.{_-_}
 use Rattle.limits.specs.Limits.{maxDefinitions}
-use Rattle.tables.proofs.Bringing.{Rows, rows-end, rows-same-size, rows-size, rows-start, rows-turn}
+use Rattle.tables.proofs.Bringing.{RowsFrom, rows-end, rows-same-size, rows-size, rows-start, rows-turn}
+use Rattle.store.specs.Store.{held}
 use borrow.Author.Needs.{needs}
 use Rattle.tables.proofs.brought.fill_rows.Statement.{statement}
 use Rattle.tables.proofs.brought.fill_rows.Tie as tie
 
 abbrev Inv-loop : tie.InvT-loop
-Inv-loop names nexts₀ r₀ nexts r = Rows names r nexts
+Inv-loop store nexts₀ r₀ nexts r = RowsFrom (held store .names) r nexts
 
 abbrev μ-loop : tie.MeasureT-loop
-μ-loop names nexts₀ r₀ nexts r = maxDefinitions - r
+μ-loop store nexts₀ r₀ nexts r = maxDefinitions - r
 
 loop-holds : tie.Need-loop-holds Inv-loop μ-loop
 loop-holds c = search (rows-start, needs)

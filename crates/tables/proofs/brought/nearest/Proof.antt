@@ -4,8 +4,8 @@ use borrow.Author.Needs.{needs}
 use Rattle.tables.proofs.brought.nearest.Statement.{statement}
 use Rattle.tables.proofs.brought.nearest.Tie as tie
 
-number-at-requires : tie.Need-number-at-requires
-number-at-requires c κs = search needs
+name-at-requires : tie.Need-name-at-requires
+name-at-requires c κs = search needs
 
 cast-result : tie.Need-cast-result
 cast-result c = search needs
@@ -17,4 +17,4 @@ returns-2 : tie.Need-returns-2
 returns-2 c = search (nearest-after, needs)
 
 pub nearest-spec : {M : Type 1} → statement M
-nearest-spec = tie.close (tie.spec number-at-requires cast-result returns returns-2)
+nearest-spec = tie.close (tie.spec name-at-requires cast-result returns returns-2)

@@ -3,15 +3,16 @@ use Prim.Native.Nat.{_-_}
 use Rattle.limits.specs.Limits.{maxDefinitions}
 use Rattle.tables.specs.Brought.{Represented}
 use Rattle.tables.proofs.Bringing.{represented-end, represented-inside, represented-size, represented-start, represented-turn}
+use Rattle.store.specs.Store.{held}
 use borrow.Author.Needs.{needs}
 use Rattle.tables.proofs.brought.represent.Statement.{statement}
 use Rattle.tables.proofs.brought.represent.Tie as tie
 
 abbrev Inv-loop : tie.InvT-loop
-Inv-loop names nexts₀ g₀ nexts g = Represented names g nexts
+Inv-loop store nexts₀ g₀ nexts g = Represented (held store .names) g nexts
 
 abbrev μ-loop : tie.MeasureT-loop
-μ-loop names nexts₀ g₀ nexts g = maxDefinitions - g
+μ-loop store nexts₀ g₀ nexts g = maxDefinitions - g
 
 loop-holds : tie.Need-loop-holds Inv-loop μ-loop
 loop-holds c = search (represented-start, needs)
@@ -19,8 +20,8 @@ loop-holds c = search (represented-start, needs)
 cast-nexts : tie.Need-cast-nexts Inv-loop μ-loop
 cast-nexts c = search needs
 
-number-at-requires : tie.Need-number-at-requires Inv-loop μ-loop
-number-at-requires c κs = search needs
+name-at-requires : tie.Need-name-at-requires Inv-loop μ-loop
+name-at-requires c κs = search needs
 
 cast-nexts-2 : tie.Need-cast-nexts-2 Inv-loop μ-loop
 cast-nexts-2 c = search needs
@@ -51,7 +52,7 @@ represent-spec =
     μ-loop
     loop-holds
     cast-nexts
-    number-at-requires
+    name-at-requires
     cast-nexts-2
     slice-write-nexts
     add-g

@@ -7,8 +7,8 @@ use Rattle.tables.proofs.brought.told.Tie as tie
 returns : tie.Need-returns
 returns c = search (told-below, needs)
 
-number-at-requires : tie.Need-number-at-requires
-number-at-requires c κs = search needs
+name-at-requires : tie.Need-name-at-requires
+name-at-requires c κs = search needs
 
 returns-2 : tie.Need-returns-2
 returns-2 c = search (told-here, needs)
@@ -17,4 +17,4 @@ returns-3 : tie.Need-returns-3
 returns-3 c = search (told-other, needs)
 
 pub told-spec : {M : Type 1} → statement M
-told-spec = tie.close (tie.spec returns number-at-requires returns-2 returns-3)
+told-spec = tie.close (tie.spec returns name-at-requires returns-2 returns-3)

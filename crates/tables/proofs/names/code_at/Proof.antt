@@ -7,18 +7,18 @@ use Rattle.tables.proofs.names.code_at.Tie as tie
 returns : tie.Need-returns
 returns c = search entry-none
 
-sub-number-at : tie.Need-sub-number-at
-sub-number-at c = search needs
+sub-context-at : tie.Need-sub-context-at
+sub-context-at c = search needs
 
-add-number-at : tie.Need-add-number-at
-add-number-at c = search needs
+add-context-at : tie.Need-add-context-at
+add-context-at c = search needs
 
-number-at-requires : tie.Need-number-at-requires
-number-at-requires c κs = search needs
+context-at-requires : tie.Need-context-at-requires
+context-at-requires c κs = search needs
 
 returns-2 : tie.Need-returns-2
 returns-2 c = search entry-some
 
 pub code-at-spec : {M : Type 1} → statement M
 code-at-spec =
-    tie.close (tie.spec returns sub-number-at add-number-at number-at-requires returns-2)
+    tie.close (tie.spec returns sub-context-at add-context-at context-at-requires returns-2)

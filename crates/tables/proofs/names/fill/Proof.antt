@@ -1,15 +1,16 @@
 -- `names::fill`: the codes from place i on are in the table.
 use Prim.Native.Nat.{_-_}
 use Rattle.tables.proofs.Naming.{Placing, placing-end, placing-inside, placing-size, placing-start, placing-turn}
+use Rattle.store.specs.Store.{held}
 use borrow.Author.Needs.{needs}
 use Rattle.tables.proofs.names.fill.Statement.{statement}
 use Rattle.tables.proofs.names.fill.Tie as tie
 
 abbrev Inv-loop : tie.InvT-loop
-Inv-loop names contexts table₀ from end i₀ table i = Placing names contexts from end i table
+Inv-loop store table₀ from end i₀ table i = Placing (held store .names) (held store .contexts) from end i table
 
 abbrev μ-loop : tie.MeasureT-loop
-μ-loop names contexts table₀ from end i₀ table i = i - from
+μ-loop store table₀ from end i₀ table i = i - from
 
 loop-holds : tie.Need-loop-holds Inv-loop μ-loop
 loop-holds c = search (placing-start, needs)
@@ -17,14 +18,14 @@ loop-holds c = search (placing-start, needs)
 sub-i : tie.Need-sub-i Inv-loop μ-loop
 sub-i c = search needs
 
-number-at-requires : tie.Need-number-at-requires Inv-loop μ-loop
-number-at-requires c κs = search needs
+context-at-requires : tie.Need-context-at-requires Inv-loop μ-loop
+context-at-requires c κs = search needs
 
-cast-number-at : tie.Need-cast-number-at Inv-loop μ-loop
-cast-number-at c = search needs
+cast-name-at : tie.Need-cast-name-at Inv-loop μ-loop
+cast-name-at c = search needs
 
-number-at-requires-2 : tie.Need-number-at-requires-2 Inv-loop μ-loop
-number-at-requires-2 c κs = search needs
+name-at-requires : tie.Need-name-at-requires Inv-loop μ-loop
+name-at-requires c κs = search needs
 
 cast-put-two : tie.Need-cast-put-two Inv-loop μ-loop
 cast-put-two c = search needs
@@ -64,9 +65,9 @@ fill-spec =
     μ-loop
     loop-holds
     sub-i
-    number-at-requires
-    cast-number-at
-    number-at-requires-2
+    context-at-requires
+    cast-name-at
+    name-at-requires
     cast-put-two
     mul-put-two
     sub-put-two

@@ -4,11 +4,14 @@ use borrow.Author.Needs.{needs}
 use Rattle.tables.proofs.names.find.Statement.{statement}
 use Rattle.tables.proofs.names.find.Tie as tie
 
-mul-i : tie.Need-mul-i
-mul-i c = search needs
+find-code-requires : tie.Need-find-code-requires
+find-code-requires c κs = search needs
 
-add-if1 : tie.Need-add-if1
-add-if1 c = search needs
+returns : tie.Need-returns
+returns c = search needs
+
+mul-number-at : tie.Need-mul-number-at
+mul-number-at c = search needs
 
 number-at-requires : tie.Need-number-at-requires
 number-at-requires c κs = search needs
@@ -16,23 +19,16 @@ number-at-requires c κs = search needs
 code-at-requires : tie.Need-code-at-requires
 code-at-requires c κs = search needs
 
-returns : tie.Need-returns
-returns c = search (by-table, needs)
-
-find-code-requires : tie.Need-find-code-requires
-find-code-requires c κs = search needs
-
 returns-2 : tie.Need-returns-2
-returns-2 c = search needs
+returns-2 c = search (by-table, needs)
 
 pub find-spec : {M : Type 1} → statement M
 find-spec =
     tie.close
     (tie.spec
-    mul-i
-    add-if1
+    find-code-requires
+    returns
+    mul-number-at
     number-at-requires
     code-at-requires
-    returns
-    find-code-requires
     returns-2)

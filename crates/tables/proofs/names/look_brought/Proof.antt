@@ -1,4 +1,3 @@
--- `names::look_brought`: only definitions are brought.
 use Rattle.resolve.proofs.Looking.{as-brought, not-brought, nothing-brought}
 use borrow.Author.Needs.{needs}
 use Rattle.tables.proofs.names.look_brought.Statement.{statement}

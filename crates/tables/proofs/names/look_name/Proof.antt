@@ -1,4 +1,3 @@
--- `names::look_name`: the code that was found, or none.
 use Rattle.tables.proofs.Naming.{name-code, no-name}
 use borrow.Author.Needs.{needs}
 use Rattle.tables.proofs.names.look_name.Statement.{statement}

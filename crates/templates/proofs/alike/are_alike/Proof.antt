@@ -4,35 +4,35 @@ use borrow.Author.Needs.{needs}
 use Rattle.templates.proofs.alike.are_alike.Statement.{statement}
 use Rattle.templates.proofs.alike.are_alike.Tie as tie
 
-number-at-requires : tie.Need-number-at-requires
-number-at-requires c κs = search needs
+declared-at-requires : tie.Need-declared-at-requires
+declared-at-requires c κs = search needs
 
 cast-o : tie.Need-cast-o
 cast-o c = search needs
 
-number-at-requires-2 : tie.Need-number-at-requires-2
-number-at-requires-2 c κs = search needs
+declared-at-requires-2 : tie.Need-declared-at-requires-2
+declared-at-requires-2 c κs = search needs
 
 cast-p : tie.Need-cast-p
 cast-p c = search needs
 
-number-at-requires-3 : tie.Need-number-at-requires-3
-number-at-requires-3 c κs = search needs
+name-at-requires : tie.Need-name-at-requires
+name-at-requires c κs = search needs
 
-number-at-requires-4 : tie.Need-number-at-requires-4
-number-at-requires-4 c κs = search needs
+name-at-requires-2 : tie.Need-name-at-requires-2
+name-at-requires-2 c κs = search needs
 
-mul-number-at : tie.Need-mul-number-at
-mul-number-at c = search needs
+mul-fact-at : tie.Need-mul-fact-at
+mul-fact-at c = search needs
 
-number-at-requires-5 : tie.Need-number-at-requires-5
-number-at-requires-5 c κs = search needs
+fact-at-requires : tie.Need-fact-at-requires
+fact-at-requires c κs = search needs
 
-mul-number-at-2 : tie.Need-mul-number-at-2
-mul-number-at-2 c = search needs
+mul-fact-at-2 : tie.Need-mul-fact-at-2
+mul-fact-at-2 c = search needs
 
-number-at-requires-6 : tie.Need-number-at-requires-6
-number-at-requires-6 c κs = search needs
+fact-at-requires-2 : tie.Need-fact-at-requires-2
+fact-at-requires-2 c κs = search needs
 
 returns : tie.Need-returns
 returns c = search (needs, alike-named)
@@ -44,15 +44,15 @@ pub are-alike-spec : {M : Type 1} → statement M
 are-alike-spec =
     tie.close
     (tie.spec
-    number-at-requires
+    declared-at-requires
     cast-o
-    number-at-requires-2
+    declared-at-requires-2
     cast-p
-    number-at-requires-3
-    number-at-requires-4
-    mul-number-at
-    number-at-requires-5
-    mul-number-at-2
-    number-at-requires-6
+    name-at-requires
+    name-at-requires-2
+    mul-fact-at
+    fact-at-requires
+    mul-fact-at-2
+    fact-at-requires-2
     returns
     returns-2)

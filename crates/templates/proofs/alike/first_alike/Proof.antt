@@ -6,10 +6,10 @@ use Rattle.templates.proofs.alike.first_alike.Statement.{statement}
 use Rattle.templates.proofs.alike.first_alike.Tie as tie
 
 abbrev Inv-loop : tie.InvT-loop
-Inv-loop names facts declared e f₀ f = f ≤ e
+Inv-loop store e f₀ f = f ≤ e
 
 abbrev μ-loop : tie.MeasureT-loop
-μ-loop names facts declared e f₀ f = e - f
+μ-loop store e f₀ f = e - f
 
 loop-holds : tie.Need-loop-holds Inv-loop μ-loop
 loop-holds c = search needs

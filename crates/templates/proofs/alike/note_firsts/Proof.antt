@@ -1,4 +1,5 @@
 -- `alike::note_firsts`: those of the first e declarations have been noted.
+use Rattle.store.specs.Store.{held}
 use Prim.Native.Nat.{_-_}
 use Rattle.limits.specs.Limits.{maxDeclarations}
 use Rattle.templates.proofs.Firsts.{Noting, noting-end, noting-start, noting-turn}
@@ -7,10 +8,10 @@ use Rattle.templates.proofs.alike.note_firsts.Statement.{statement}
 use Rattle.templates.proofs.alike.note_firsts.Tie as tie
 
 abbrev Inv-loop : tie.InvT-loop
-Inv-loop names facts declared firsts₀ e₀ firsts e = Noting names facts declared firsts e
+Inv-loop store firsts₀ e₀ firsts e = Noting (held store .names) (held store .facts) (held store .declared) firsts e
 
 abbrev μ-loop : tie.MeasureT-loop
-μ-loop names facts declared firsts₀ e₀ firsts e = maxDeclarations - e
+μ-loop store firsts₀ e₀ firsts e = maxDeclarations - e
 
 loop-holds : tie.Need-loop-holds Inv-loop μ-loop
 loop-holds c = search (needs, noting-start)

@@ -2,7 +2,7 @@
 use mathlib.Core.Path.{_≡_, refl}
 use lib.ListN.{length}
 use native.Mathlib.Omega.{arith}
-use Rattle.context.specs.Store.{store}
+use Rattle.store.specs.Store.{held}
 use Rattle.templates.specs.Shaped.{textBytes}
 use Rattle.templates.specs.Taking.{workBytes}
 use Rattle.templates.proofs.Taking.{Underway, underway-end, underway-no, underway-start, underway-turn}
@@ -11,18 +11,18 @@ use Rattle.templates.proofs.making.take_all.Statement.{statement}
 use Rattle.templates.proofs.making.take_all.Tie as tie
 
 abbrev Inv-loop : tie.InvT-loop
-Inv-loop file refs names facts contexts orders heads declared n numbers currents outers along k text₀ filled₀ work₀ len q₀ h₀ text filled work q h =
-    Underway file refs (store names facts contexts orders heads) declared n k numbers currents outers along work₀ len work q h × (length text ≡ textBytes) × (length filled ≡ workBytes) × (length work ≡ workBytes)
+Inv-loop file refs store numbers currents outers along text₀ filled₀ work₀ len q₀ h₀ text filled work q h =
+    Underway file refs (held store) (held store .declared) numbers currents outers along work₀ len work q h × (length text ≡ textBytes) × (length filled ≡ workBytes) × (length work ≡ workBytes)
 
 abbrev μ-loop : tie.MeasureT-loop
-μ-loop file refs names facts contexts orders heads declared n numbers currents outers along k text₀ filled₀ work₀ len q₀ h₀ text filled work q h =
+μ-loop file refs store numbers currents outers along text₀ filled₀ work₀ len q₀ h₀ text filled work q h =
     h
 
 highest-number-requires : tie.Need-highest-number-requires Inv-loop μ-loop
 highest-number-requires c κs = search needs
 
 loop-holds : tie.Need-loop-holds Inv-loop μ-loop
-loop-holds c = (underway-start _ _ _ _ _ _ _ _ _ _ _ _ _ (omega (arith, c .before .before .before .before .before .before .before .before .before .before .before .before .before .before .before .before .before .pre .3, c .before .before .before .before .before .before .before .before .before .before .before .before .before .before .before .before .before .pre .4)) (c .highest-number .ensures .0) (c .highest-number .ensures .1), search needs, search needs, search needs)
+loop-holds c = (underway-start _ _ _ _ _ _ _ _ _ _ _ (omega (arith, c .before .before .before .before .before .before .before .before .before .before .pre .3, c .before .before .before .before .before .before .before .before .before .before .pre .4)) (c .highest-number .ensures .0) (c .highest-number .ensures .1), search needs, search needs, search needs)
 
 add-loop : tie.Need-add-loop Inv-loop μ-loop
 add-loop c = search needs
@@ -34,19 +34,19 @@ loop-less : tie.Need-loop-less Inv-loop μ-loop
 loop-less c = c .before .before .before .before .before .before .before .take-step .ensures .less (c .if1 .taken)
 
 loop-again : tie.Need-loop-again Inv-loop μ-loop
-loop-again c = (underway-turn _ _ _ _ _ _ _ _ _ _ _ _ _ _ _ (c .before .before .before .before .before .before .before .before .before .before .before .before .loop .inv .0) _ _ (c .before .before .before .before .before .before .before .take-step .ensures) (c .if1 .taken), omega (arith, c .before .before .before .before .before .before .before .before .before .before .before .before .loop .inv .1), omega (arith, c .before .before .before .before .before .before .before .before .before .before .before .before .loop .inv .2), omega (arith, c .before .before .before .before .before .before .before .before .before .before .before .before .loop .inv .3))
+loop-again c = (underway-turn _ _ _ _ _ _ _ _ _ _ _ _ _ (c .before .before .before .before .before .before .before .before .before .before .before .before .loop .inv .0) _ _ (c .before .before .before .before .before .before .before .take-step .ensures) (c .if1 .taken), omega (arith, c .before .before .before .before .before .before .before .before .before .before .before .before .loop .inv .1), omega (arith, c .before .before .before .before .before .before .before .before .before .before .before .before .loop .inv .2), omega (arith, c .before .before .before .before .before .before .before .before .before .before .before .before .loop .inv .3))
 
 same-length : tie.Need-same-length Inv-loop μ-loop
-same-length c = search (needs, c .before .before .before .before .before .before .before .before .before .before .before .before .loop .inv .1, c .before .before .before .before .before .before .before .before .before .before .before .before .before .before .before .before .before .before .before .before .before .before .before .before .before .before .before .before .before .before .pre .1)
+same-length c = search (needs, c .before .before .before .before .before .before .before .before .before .before .before .before .loop .inv .1, c .before .before .before .before .before .before .before .before .before .before .before .before .before .before .before .before .before .before .before .before .before .before .before .pre .1)
 
 same-length-2 : tie.Need-same-length-2 Inv-loop μ-loop
-same-length-2 c = search (needs, c .before .before .before .before .before .before .before .before .before .before .before .before .loop .inv .2, c .before .before .before .before .before .before .before .before .before .before .before .before .before .before .before .before .before .before .before .before .before .before .before .before .before .before .before .before .before .before .pre .2)
+same-length-2 c = search (needs, c .before .before .before .before .before .before .before .before .before .before .before .before .loop .inv .2, c .before .before .before .before .before .before .before .before .before .before .before .before .before .before .before .before .before .before .before .before .before .before .before .pre .2)
 
 same-length-3 : tie.Need-same-length-3 Inv-loop μ-loop
 same-length-3 c = search needs
 
 returns : tie.Need-returns Inv-loop μ-loop
-returns c = underway-no _ _ _ _ _ _ _ _ _ _ _ _ _ _ _ (c .before .before .before .before .before .before .before .before .before .before .before .before .loop .inv .0) _ _ _ (c .before .before .before .before .before .before .before .take-step .ensures) (c .if1 .left) refl refl
+returns c = underway-no _ _ _ _ _ _ _ _ _ _ _ _ _ (c .before .before .before .before .before .before .before .before .before .before .before .before .loop .inv .0) _ _ _ (c .before .before .before .before .before .before .before .take-step .ensures) (c .if1 .left) refl refl
 
 same-length-4 : tie.Need-same-length-4 Inv-loop μ-loop
 same-length-4 c = search needs
@@ -58,7 +58,7 @@ same-length-6 : tie.Need-same-length-6 Inv-loop μ-loop
 same-length-6 c = search needs
 
 returns-2 : tie.Need-returns-2 Inv-loop μ-loop
-returns-2 c = underway-end _ _ _ _ _ _ _ _ _ _ _ _ _ _ _ (c .before .loop .inv .0) _ (search needs) refl refl
+returns-2 c = underway-end _ _ _ _ _ _ _ _ _ _ _ _ _ (c .before .loop .inv .0) _ (search needs) refl refl
 
 pub take-all-spec : {M : Type 1} → statement M
 take-all-spec =

@@ -35,7 +35,7 @@ same-length-3 c = search needs
 
 returns : tie.Need-returns
 returns c =
-    taken-out _ _ _ _ _ _ _ _ _ _ _ _ _ _ _ _ _ _ _ _ _ _ _ _ _ (omega (arith, c .before .before .before .before .before .before .before .before .before .before .before .before .before .before .before .before .before .before .before .before .before .before .before .before .before .before .before .before .before .pre .5)) refl refl (c .before .before .before .before .before .before .before .before .before .before .before .before .standin-string .ensures) (omega (arith, c .before .before .before .before .before .before .before .before .before .before .before .before .before .before .before .before .before .before .before .before .before .before .before .before .before .before .before .before .before .pre .1)) (search needs)
+    taken-out _ _ _ _ _ _ _ _ _ _ _ _ _ _ _ _ _ _ (omega (arith, c .before .before .before .before .before .before .before .before .before .before .before .before .before .before .before .before .before .before .before .before .before .before .pre .5)) refl refl (c .before .before .before .before .before .before .before .before .before .before .before .before .standin-string .ensures) (omega (arith, c .before .before .before .before .before .before .before .before .before .before .before .before .before .before .before .before .before .before .before .before .before .before .pre .1)) (search needs)
     (c .before .before .before .before .before .before .rewrite .ensures)
 
 pub take-out-spec : {M : Type 1} → statement M

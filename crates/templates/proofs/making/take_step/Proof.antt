@@ -29,7 +29,7 @@ same-length-3 c = search needs
 
 returns : tie.Need-returns
 returns c =
-    step-taken _ _ _ _ _ _ _ _ _ _ _ _ _ _ _ _ _ _ _ (omega (arith, c .before .before .before .before .before .before .before .before .before .before .before .before .before .before .before .before .before .before .before .before .before .before .before .before .before .before .before .before .pre .5)) (c .before .before .before .before .before .before .before .before .before .take-out .ensures) (c .before .highest-number .ensures .0) (c .before .highest-number .ensures .1)
+    step-taken _ _ _ _ _ _ _ _ _ _ _ _ _ _ _ _ _ (omega (arith, c .before .before .before .before .before .before .before .before .before .before .before .before .before .before .before .before .before .before .before .before .before .pre .5)) (c .before .before .before .before .before .before .before .before .before .take-out .ensures) (c .before .highest-number .ensures .0) (c .before .highest-number .ensures .1)
     (c .goes-on .ensures) refl refl refl
 
 pub take-step-spec : {M : Type 1} → statement M

@@ -18,7 +18,7 @@ same-length c = search needs
 
 returns : tie.Need-returns
 returns c =
-    own-shaped _ _ _ _ _ _ _ _ _ _ _ _ _ _ _ _ _ _ _ _ (search needs) (c .before .before .before .before .before .own-string .ensures) (search needs) (search needs) (c .before .shape-of .ensures)
+    own-shaped _ _ _ _ _ _ _ _ _ _ _ _ _ _ (search needs) (c .before .before .before .before .before .own-string .ensures) (search needs) (search needs) (c .before .shape-of .ensures)
     (c .kept-shape .ensures)
 
 pub own-shape-spec : {M : Type 1} → statement M

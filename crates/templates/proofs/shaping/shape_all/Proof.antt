@@ -2,7 +2,7 @@
 use mathlib.Core.Path.{_≡_}
 use Prim.Native.Nat.{_-_, _≤_}
 use lib.ListN.{length}
-use Rattle.context.specs.Store.{store}
+use Rattle.store.specs.Store.{held}
 use Rattle.callees.specs.Walk.{Sized}
 use Rattle.templates.specs.Shaped.{shapeCount, textBytes}
 use Rattle.templates.proofs.Defining.{Defining, defining-end, defining-start, defining-turn}
@@ -12,11 +12,11 @@ use Rattle.templates.proofs.shaping.shape_all.Statement.{statement}
 use Rattle.templates.proofs.shaping.shape_all.Tie as tie
 
 abbrev Inv-loop : tie.InvT-loop
-Inv-loop file refs names facts contexts orders heads declared n count numbers₀ currents₀ outers₀ text₀ along₀ shapes₀ d₀ numbers currents outers text along shapes d =
-    Defining file refs (store names facts contexts orders heads) declared n d shapes × (d ≤ count) × Sized numbers currents outers × (length text ≡ textBytes) × (length along ≡ shapeCount)
+Inv-loop file refs store n count numbers₀ currents₀ outers₀ text₀ along₀ shapes₀ d₀ numbers currents outers text along shapes d =
+    Defining file refs (held store) (held store .declared) n d shapes × (d ≤ count) × Sized numbers currents outers × (length text ≡ textBytes) × (length along ≡ shapeCount)
 
 abbrev μ-loop : tie.MeasureT-loop
-μ-loop file refs names facts contexts orders heads declared n count numbers₀ currents₀ outers₀ text₀ along₀ shapes₀ d₀ numbers currents outers text along shapes d =
+μ-loop file refs store n count numbers₀ currents₀ outers₀ text₀ along₀ shapes₀ d₀ numbers currents outers text along shapes d =
     count - d
 
 clear-shapes-requires : tie.Need-clear-shapes-requires Inv-loop μ-loop
@@ -29,7 +29,7 @@ shape-definition-requires : tie.Need-shape-definition-requires Inv-loop μ-loop
 shape-definition-requires c κs = search needs
 
 add-d : tie.Need-add-d Inv-loop μ-loop
-add-d c = search (needs, c .before .before .before .before .before .before .before .before .before .before .before .before .before .before .before .before .before .before .before .loop-test, c .before .before .before .before .before .before .before .before .before .before .before .before .before .before .before .before .before .before .before .before .before .before .before .before .before .before .before .before .before .before .before .before .before .before .before .before .before .before .before .pre .4)
+add-d c = search (needs, c .before .before .before .before .before .before .before .before .before .before .before .before .before .before .before .before .before .before .before .loop-test, c .before .before .before .before .before .before .before .before .before .before .before .before .before .before .before .before .before .before .before .before .before .before .before .before .before .before .before .before .before .before .before .before .pre .4)
 
 loop-less : tie.Need-loop-less Inv-loop μ-loop
 loop-less c = search needs

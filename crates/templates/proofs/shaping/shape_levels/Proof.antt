@@ -2,7 +2,7 @@
 use mathlib.Core.Path.{_≡_}
 use Prim.Native.Nat.{_-_}
 use lib.ListN.{length}
-use Rattle.context.specs.Store.{store}
+use Rattle.store.specs.Store.{held}
 use Rattle.templates.specs.Shaped.{textBytes}
 use Rattle.templates.proofs.Storing.{Storing, storing-end, storing-start, storing-turn}
 use borrow.Author.Needs.{needs}
@@ -10,11 +10,11 @@ use Rattle.templates.proofs.shaping.shape_levels.Statement.{statement}
 use Rattle.templates.proofs.shaping.shape_levels.Tie as tie
 
 abbrev Inv-loop : tie.InvT-loop
-Inv-loop file refs names facts contexts orders heads declared n firsts numbers currents outers text₀ along₀ k end m₀ text along m =
-    Storing file refs (store names facts contexts orders heads) declared n k numbers currents outers along₀ along m × (length text ≡ textBytes)
+Inv-loop file refs store n firsts numbers currents outers text₀ along₀ k end m₀ text along m =
+    Storing file refs (held store) (held store .declared) n k numbers currents outers along₀ along m × (length text ≡ textBytes)
 
 abbrev μ-loop : tie.MeasureT-loop
-μ-loop file refs names facts contexts orders heads declared n firsts numbers currents outers text₀ along₀ k end m₀ text along m =
+μ-loop file refs store n firsts numbers currents outers text₀ along₀ k end m₀ text along m =
     end - m
 
 add-end : tie.Need-add-end Inv-loop μ-loop

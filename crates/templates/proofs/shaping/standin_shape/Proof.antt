@@ -28,7 +28,7 @@ same-length c = search needs
 
 returns : tie.Need-returns
 returns c =
-    standin-shaped _ _ _ _ _ _ _ _ _ _ _ _ _ _ _ _ _ _ _ _ _ _ (search needs) refl refl (c .before .before .before .before .before .standin-string .ensures) (search needs) (search needs) (c .before .shape-of .ensures)
+    standin-shaped _ _ _ _ _ _ _ _ _ _ _ _ _ _ _ _ (search needs) refl refl (c .before .before .before .before .before .standin-string .ensures) (search needs) (search needs) (c .before .shape-of .ensures)
     (c .kept-shape .ensures)
 
 pub standin-shape-spec : {M : Type 1} → statement M
