@@ -57,13 +57,13 @@ unfoldable pub replyOf : List ℕ → List ℕ → Walked → ℕ → Asked
 replyOf levels expr w fields =
     cond (w .kept) (cond (eqb (w .looked .next) (length expr)) (keptReply levels w fields) (Refused 3 fields)) (Refused (limitCause expr) fields)
 
--- The reply in module m is the rules', if the arrays show a state in which it is ended, and that many fields are read.
+-- The reply in module m is the rules', if the store shows a state in which it is ended, and that many fields are read.
 pub record AsksIn (v : Store) (words : List ℕ) (m fields : ℕ) (levels expr : List ℕ) (r : Asked) : Type 0 where
   pub reply : (file : List ℕ) (fs : List Field) (s : State) (rs : List Row) (c : Counts) (p : Phase) (refs : List ℕ)
       → Standing file fs s rs v c p refs words → m < c .modules → fields ≡ c .fields
       → outcomeOf r ≡ andThen (readIn s (moduleNo s m) levels (length levels) (expression .read expr)) (λ t. result (levelOf s levels t))
 
--- The reply is the rules', if the arrays and counts show a state that some fields lead to.
+-- The reply is the rules', if the store and the counts show a state that some fields lead to.
 pub record Asks (v : Store) (words : List ℕ) (c : Counts) (m : ℕ) (levels expr : List ℕ) (r : Asked) : Type 0 where
   pub reply : (file : List ℕ) (fs : List Field) (s : State) (rs : List Row) (p : Phase) (refs : List ℕ)
       → Standing file fs s rs v c p refs words

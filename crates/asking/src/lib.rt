@@ -95,7 +95,7 @@ fn reply_in(
     walked_reply(expr, levels, store, words, m, fields)
 }
 
-// The level of the expression at the end of the module of that name, a level being given for each of its parameters. The arrays are those
+// The level of the expression at the end of the module of that name, a level being given for each of its parameters. The store is that
 // of a file that was checked, which has c of each kind.
 pub fn level_reply(
     expr: &[u8],

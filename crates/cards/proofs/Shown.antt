@@ -1,4 +1,4 @@
--- The cards that the arrays hold are those of the state that they show.
+-- The cards by the store and the forms are those of the state that they show.
 use borrow.Author.Tests.{le-ltb}
 use mathlib.Core.Bool.{Bool, cond}
 use mathlib.Core.List.{List, [], _++_, _∷_, append-assoc, append-nil}

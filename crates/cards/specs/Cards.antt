@@ -1,4 +1,4 @@
--- The cards that the arrays hold, definition after definition.
+-- The cards by the store and the forms, definition after definition.
 use mathlib.Core.List.{List, [], _++_}
 use Prim.Native.Nat.{ℕ, zero, suc}
 use Rattle.theory.specs.Card.{cardOf}

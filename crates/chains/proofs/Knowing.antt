@@ -1,4 +1,4 @@
--- What is known of a text or a substitute that the arrays show, where its term is well formed and names only what its module has.
+-- What is known of a text or a substitute that the store shows, where its term is well formed and names only what its module has.
 use mathlib.Core.List.{List}
 use mathlib.Core.Path.{_≡_, ap, refl, subst, sym}
 use lib.ListN.{getD}

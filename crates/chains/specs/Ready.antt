@@ -19,7 +19,7 @@ use Rattle.worlds.proofs.Invariant.{Worlds}
 use Rattle.standing.specs.Chained.{Chained}
 use Rattle.standing.specs.Standing.{DeclaredCodes}
 
--- The arrays show the chains of the state s, whose definitions have the worlds rs.
+-- The store shows the chains of the state s, whose definitions have the worlds rs.
 pub record Ready (file refs : List ℕ) (v : Store) (declared : List ℕ) (n : ℕ) (c : Counts) (s : State) (rs : List Row) (decls : Declarations) (end : ℕ) : Type 0 where
   pub counted : c .definitions ≡ length (s .definitions)
   pub few : c .definitions ≤ maxDefinitions

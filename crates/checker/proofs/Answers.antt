@@ -6,9 +6,9 @@ use mathlib.Core.Path.{_∙_, _≡_, ap, ap₂, refl, subst, subst⁻¹, sym}
 use Prim.Native.Nat.{ℕ, _≤_, _<_}
 use native.Mathlib.Omega.{arith}
 use lib.Dec.{ltb}
-use lib.ListN.{length, length-replicate, replicate}
+use lib.ListN.{length, replicate}
 use Rattle.limits.specs.Limits.{cardMemoryBytes, fileBytes, maxDefinitions}
-use Rattle.limits.specs.Sizes.{codeCount, contextsLength, factsLength, headsLength, ordersLength, storeLength}
+use Rattle.limits.specs.Sizes.{storeLength}
 use Rattle.theory.proofs.Lists.{or-false}
 use Rattle.rules.specs.Bytes.{isEmpty}
 use Rattle.rules.specs.Run.{Answer, Outcome, afterCheck, andThen, cardsFrom, fileCheck, checked, judgeFile, memoryAfter, overwrite, refusal, result}

@@ -4,7 +4,7 @@ use mathlib.Core.Path.{_≡_, refl}
 use Prim.Native.Nat.{ℕ}
 use native.Mathlib.Omega.{arith}
 use lib.ListN.{length}
-use Rattle.limits.specs.Limits.{fileBytes, maxDeclarations}
+use Rattle.limits.specs.Limits.{fileBytes}
 use Rattle.rules.specs.State.{start}
 use Rattle.laws.proofs.Invariant.{good-start}
 use Rattle.laws.proofs.LevelCorrect.{level-correct-start}

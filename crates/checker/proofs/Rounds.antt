@@ -5,7 +5,7 @@ use mathlib.Core.Path.{_≡_, subst, subst⁻¹}
 use Prim.Native.Nat.{ℕ, _-_, _<_}
 use native.Mathlib.Omega.{arith}
 use lib.ListN.{length}
-use Rattle.limits.specs.Limits.{fileBytes, maxDeclarations}
+use Rattle.limits.specs.Limits.{fileBytes}
 use Rattle.fields.specs.Cursor.{placeOf}
 use Rattle.fields.specs.declared.Cursor.{Cursor}
 use Rattle.store.specs.Store.{Store, empty}

@@ -9,7 +9,7 @@ use native.Mathlib.Omega.{arith}
 use lib.Dec.{eqb}
 use lib.ListN.{drop, getD, length}
 use lib.Seq.{drop-cons}
-use Rattle.limits.specs.Limits.{fileBytes, maxDeclarations}
+use Rattle.limits.specs.Limits.{fileBytes}
 use Rattle.theory.proofs.Lists.{never}
 use Rattle.rules.specs.Add.{add}
 use Rattle.rules.specs.Bytes.{cut, got}

@@ -1,4 +1,4 @@
--- What the fields of a file lead to, by the reply and the arrays that show it.
+-- What the fields of a file lead to, by the reply and the store that shows it.
 use mathlib.Core.Bool.{Bool, _||_}
 use mathlib.Core.List.{List}
 use mathlib.Core.Path.{_≡_}
@@ -23,7 +23,7 @@ use Rattle.cards.specs.Cards.{cardsOf}
 use Rattle.checker.specs.declared.Reply.the-variants.{Accepted, Refused}
 use Rattle.checker.specs.declared.Reply.{Reply}
 
--- the fields lead to a state of n definitions, which the arrays show
+-- the fields lead to a state of n definitions, which the store shows
 pub record Reaches (file : List ℕ) (v : Store) (c : Counts) (refs words : List ℕ) (n : ℕ) : Type 0 where
   pub fields : List Field
   pub state : State

@@ -2,8 +2,7 @@
 ghost use mathlib.Core.Path.{_≡_};
 ghost use Prim.Native.Nat.{_≤_};
 ghost use lib.ListN.{length};
-ghost use Rattle.limits.specs.Limits.{fileBytes, maxDeclarations, maxDefinitions};
-ghost use Rattle.limits.specs.Sizes.{codeCount};
+ghost use Rattle.limits.specs.Limits.{fileBytes};
 ghost use Rattle.levels.specs.Tables.{tableWords};
 ghost use Rattle.checker.specs.Settles.{Midway, Settles};
 ghost use Rattle.checker.specs.Turned.{Turned, endReply, stopped, turnOf};
@@ -103,7 +102,7 @@ fn judge_next(
     turn_of(j, step)
 }
 
-// The fields from the first on, in empty arrays. On acceptance they show the state that the fields lead to.
+// The fields from the first on, in an empty store. On acceptance it shows the state that the fields lead to.
 pub fn judge_fields(
     file: &[u8],
     store: &mut [u16; Store::LENGTH],

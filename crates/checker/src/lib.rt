@@ -5,8 +5,7 @@ ghost use mathlib.Core.Bool.{false, true};
 ghost use mathlib.Core.Path.{_≡_};
 ghost use Prim.Native.Nat.{_≤_};
 ghost use lib.ListN.{length};
-ghost use Rattle.limits.specs.Limits.{cardMemoryBytes, fileBytes, maxDeclarations, maxDefinitions};
-ghost use Rattle.limits.specs.Sizes.{codeCount, factsLength};
+ghost use Rattle.limits.specs.Limits.{cardMemoryBytes, fileBytes};
 ghost use Rattle.levels.specs.Tables.{tableWords};
 ghost use Rattle.rules.specs.Bytes.{isEmpty};
 ghost use Rattle.rules.specs.Run.{fileCheck};
@@ -39,7 +38,7 @@ fn settle(reply: Reply, store: &[u16; Store::LENGTH], words: &[u64; Lent::WORDS]
     }
 }
 
-// A file of lawful size, judged in arrays that are empty, and the lent memory after it. On acceptance the arrays show the state that the file
+// A file of lawful size, judged in a store that is empty, and the lent memory after it. On acceptance the store shows the state that the file
 // leads to, for what is asked of it.
 pub fn judge_in(
     file: &[u8],

@@ -1,4 +1,4 @@
--- Each addition, field by field: where the arrays show a state, what the addition leaves shows the state with that field added.
+-- Each addition, field by field: where the store shows a state, what the addition leaves shows the state with that field added.
 use borrow.Author.Tests.{le-ltb, lt-ltb}
 use mathlib.Core.List.{List, [], _++_, _∷_, append-nil}
 use mathlib.Core.Path.{_∙_, _≡_, ap, ap₂, refl, subst, subst⁻¹, sym}

@@ -1,4 +1,4 @@
--- A module's field and its end leave in the arrays what the rules add.
+-- A module's field and its end leave in the store what the rules add.
 use mathlib.Core.List.{[], _++_, _∷_}
 use mathlib.Core.Path.{_∙_, _≡_, subst, sym}
 use lib.ListN.{List·getD-append, getD, length-append}

@@ -1,4 +1,4 @@
--- What an addition to the arrays changes of what they show, piece by piece.
+-- What an addition to the store changes of what it shows, piece by piece.
 use mathlib.Core.List.{List, [], _++_, _∷_, append-nil, map}
 use mathlib.Core.Path.{_∙_, _≡_, ap, refl, sym}
 use lib.ListN.{getD, length, length-set, set}

@@ -1,4 +1,4 @@
--- What the pieces of an addition leave in the arrays shows what the rules add: a half-grown state each time.
+-- What the pieces of an addition leave in the store shows what the rules add: a half-grown state each time.
 use borrow.Author.Tests.{lt-ltb}
 use mathlib.Core.List.{List, [], _++_, _∷_}
 use mathlib.Core.Path.{_∙_, _≡_, ap, ap₂, subst, sym}

@@ -223,7 +223,7 @@ module _ (names facts : List ℕ) where
       ∙ any-each _ (definesNameIn names ds)
       (λ o. defined-at (λ x. inContext x (map (entryAt names facts) ds)) o ∙ ap (λ (b : Bool). ltb o maxDefinitions && b) (in-context (getD names o 0) ds)) cs
 
--- where the arrays show a state
+-- where the store shows a state
 
 module _ (v : Store) (c : Counts) (s : State) (holds : Holds v c s) where
   context-shown : (m : ℕ) → m ≤ c .modules → map (entryAt (v .names) (v .facts)) (codesOf v m) ≡ moduleNo s m .context

@@ -130,7 +130,7 @@ module _ (names facts : List ℕ) where
       go none = refl
       go (some o) = brought-cases (getD names o 0) o (kindAt facts o) _ _ (o - maxDefinitions) (ltb o maxDefinitions)
 
--- where the arrays show a state
+-- where the store shows a state
 
 module _ (v : Store) (c : Counts) (s : State) (holds : Holds v c s) where
   pub current-no : moduleNo s (c .modules) ≡ s .current

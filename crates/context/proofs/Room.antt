@@ -1,4 +1,4 @@
--- What the additions require follows where the arrays show a state.
+-- What the additions require follows where the store shows a state.
 use mathlib.Core.Path.{_∙_, _≡_, ap, sym}
 use lib.ListN.{getD, length}
 use native.Mathlib.Omega.{arith}

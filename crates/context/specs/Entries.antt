@@ -58,7 +58,7 @@ moduleAt v m =
       definitions = orderOf (v .orders) (v .heads) m;
     }
 
--- In an accepted prefix of a file a path has at most one name: the arrays keep that, or 0.
+-- In an accepted prefix of a file a path has at most one name: the store keeps that, or 0.
 abbrev pub pathOf : ℕ → List ℕ
 pathOf zero = []
 pathOf (suc n) = suc n ∷ []

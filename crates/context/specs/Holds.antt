@@ -1,4 +1,4 @@
--- The arrays and counts show a state of the rules.
+-- The store and the counts show a state of the rules.
 use mathlib.Core.List.{List, [], _∷_, _++_}
 use mathlib.Core.Path.{_≡_}
 use Prim.Native.Nat.{ℕ, _+_, _≤_, _<_}
@@ -26,7 +26,7 @@ pub record Known (fields definitions o : ℕ) : Type 0 where
   pub below : o < maxDefinitions + fields
   pub defined : o < maxDefinitions → o < definitions
 
--- the arrays have their sizes, the counts are within the limits, and every list is within its region
+-- the regions have their sizes, the counts are within the limits, and every list is within its room
 pub record Sized (v : Store) (c : Counts) : Type 0 where
   pub names : length (v .names) ≡ codeCount
   pub facts : length (v .facts) ≡ factsLength

@@ -14,7 +14,7 @@ use store::reading::fact_at;
 use store::reading::head_at;
 use store::reading::name_at;
 
-// The number at i, 0 past the end.
+// The number of a slice at i, 0 past the end.
 pub fn number_at(xs: &[u16], i: usize) -> u16
     ensures { λ r. ⌜ r ≡ getD (now (xs .entry)) i 0 ⌝ }
 {

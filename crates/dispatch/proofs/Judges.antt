@@ -4,7 +4,7 @@ use mathlib.Core.Path.{_≡_, subst, subst⁻¹}
 use Prim.Native.Nat.{ℕ, _+_, _-_, _*_, _≤_, _<_}
 use lib.ListN.{length}
 use Rattle.limits.specs.Limits.{fileBytes, maxDefinitions, maxModules}
-use Rattle.limits.specs.Sizes.{codeCount, maxFields}
+use Rattle.limits.specs.Sizes.{maxFields}
 use Rattle.tokens.specs.Token.{numberAt}
 use Rattle.fields.specs.declared.Parts.the-variants.{Module, Extends, Definition, Instance, EndModule, Cut, EndOfFile}
 use Rattle.fields.specs.declared.Parts.{Parts}

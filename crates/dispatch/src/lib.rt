@@ -1,8 +1,4 @@
 // One field, judged by its own judge.
-ghost use mathlib.Core.Path.{_≡_};
-ghost use lib.ListN.{length};
-ghost use Rattle.limits.specs.Limits.{maxDefinitions};
-ghost use Rattle.limits.specs.Sizes.{codeCount};
 ghost use Rattle.standing.specs.Standing.{Judging, Underway};
 ghost use Rattle.store.specs.Store.{held};
 use context::Counts;

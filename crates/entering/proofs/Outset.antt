@@ -14,7 +14,7 @@ use Rattle.context.specs.Entries.{variableKind}
 use Rattle.entering.specs.Itself.{itselfLevel}
 use Rattle.texts.proofs.Levels.{params-take}
 
--- a kind as the arrays keep it
+-- a kind as the store keeps it
 abbrev pub kindNumber : Kind → ℕ
 kindNumber (constant n) = n
 kindNumber variable = variableKind

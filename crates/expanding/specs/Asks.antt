@@ -1,4 +1,4 @@
--- What the expansion query answers, by the arrays of a checked file.
+-- What the expansion query answers, by the store of a checked file.
 use mathlib.Core.Bool.{cond}
 use mathlib.Core.List.{List, []}
 use mathlib.Core.Path.{_≡_}
@@ -47,7 +47,7 @@ pub record RepliesTo (file refs : List ℕ) (v : Store) (c : Counts) (m : ℕ) (
       → Reports (unlessLonger (expansionBytesOf s (termIn (byContext (v .names) (v .facts) (codesOf v m)) (declarationsOf fs) (placeOf 0 0 itselves) t)) (length before))
       r before after
 
--- The reply in module m is the rules', if the arrays show a state in which it is ended.
+-- The reply in module m is the rules', if the store shows a state in which it is ended.
 pub record RepliesIn (file refs : List ℕ) (v : Store) (c : Counts) (m n : ℕ) (expr : List ℕ) (r : Expanded) (before after : List ℕ) : Type 0 where
   pub reply : (fs : List Field) (s : State) (rs : List Row) (p : Phase) (words : List ℕ)
       → Standing file fs s rs v c p refs words → m < c .modules
@@ -60,7 +60,7 @@ pub record ReadReplies (file refs : List ℕ) (v : Store) (c : Counts) (expr : L
       → QueryRead expr (v .names) (v .facts) (codesOf v m) (v .declared) shapes n a workBytes q
       → RepliesIn file refs v c m n expr r before after
 
--- The reply is the rules', if the arrays and counts show a state that some fields lead to.
+-- The reply is the rules', if the store and the counts show a state that some fields lead to.
 pub record RepliesOf (file refs : List ℕ) (v : Store) (c : Counts) (m n : ℕ) (expr : List ℕ) (r : Expanded) (before after : List ℕ) : Type 0 where
   pub reply : (fs : List Field) (s : State) (rs : List Row) (p : Phase) (words : List ℕ)
       → Standing file fs s rs v c p refs words

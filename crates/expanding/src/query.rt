@@ -201,7 +201,7 @@ fn expand_in(
     )
 }
 
-// The expansion of an expression over so many parameters at the end of the module of that name. The arrays are those of a file that was
+// The expansion of an expression over so many parameters at the end of the module of that name. The store is that of a file that was
 // checked, which has c of each kind. "Output is written only by an expansion, only its length."
 pub fn expand_reply(
     expr: &[u8],

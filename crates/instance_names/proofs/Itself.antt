@@ -1,4 +1,4 @@
--- Causes 9 and 10 of the declared names without a substitution, and 11: over the arrays they are the rules'.
+-- Causes 9 and 10 of the declared names without a substitution, and 11: over the store they are the rules'.
 use mathlib.Core.Bool.{Bool, _&&_, _||_, cond, false, not, true}
 use mathlib.Core.List.{List}
 use mathlib.Core.Option.{Option, some}

@@ -1,4 +1,4 @@
--- The causes over the arrays are the first seven of the rules, in their order.
+-- The causes over the store are the first seven of the rules, in their order.
 use borrow.Author.Tests.{leb-false, lt-ltb, ltb-true}
 use mathlib.Core.Bool.{_||_, false, true}
 use mathlib.Core.List.{List, [], _∷_}
@@ -14,7 +14,7 @@ use Rattle.rules.specs.Bytes.{name, sized, writeAll, _▸_}
 use Rattle.rules.specs.Expression.{expression, overArity, overLimit}
 use Rattle.rules.specs.Field.{Field, Substitution, instance, writeField}
 use Rattle.rules.specs.Instance.{arityIn, source, substitutionFor}
-use Rattle.rules.specs.Judge.{Cause, causes, firstCause, instanceMiscounted, instanceOverLimit, instanceUnknown, notEnded, outOfOrder, tooManyDefinitions, wrongSubstitution}
+use Rattle.rules.specs.Judge.{Cause, causes, instanceMiscounted, instanceOverLimit, instanceUnknown, notEnded, outOfOrder, tooManyDefinitions, wrongSubstitution}
 use Rattle.rules.specs.State.{State, paramsOf}
 use Rattle.laws.proofs.Causes.{NoneHolds}
 use Rattle.laws.proofs.Expressions.{expression-trip}

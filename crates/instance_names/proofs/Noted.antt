@@ -61,7 +61,7 @@ keep-shown file refs refs′ decls end end′ at u h same wider =
       same = sym (shown-same (h .text) refs refs′ decls at (h .next) span inner) ∙ h .same;
     }
 
--- where the arrays show a state, at the substitutions of an INSTANCE field
+-- where the store shows a state, at the substitutions of an INSTANCE field
 module _ (v : Store) (c : Counts) (s : State) (holds : Holds v c s) (fs : List Field) (declares : Declares (v .facts) c fs) (origins : Origins fs s) (good : Good s)
     (p m k at₀ : ℕ) (file : List ℕ) (bytes : Bytes file) (end : ℕ) (whole : end ≤ length file) where
   abbrev x : Site

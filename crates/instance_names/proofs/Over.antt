@@ -1,4 +1,4 @@
--- Cause 5: the limits over the arrays are the rules'.
+-- Cause 5: the limits over the store are the rules'.
 use borrow.Author.Tests.{le-ltb, ltb-true}
 use mathlib.Core.Bool.{Bool, _||_, cond, false, true}
 use mathlib.Core.List.{List, [], _∷_}

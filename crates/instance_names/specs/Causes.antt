@@ -1,4 +1,4 @@
--- What the judging functions answer, over the arrays.
+-- What the judging functions answer, over the store.
 use mathlib.Core.Bool.{Bool, _||_}
 use mathlib.Core.List.{List, [], _∷_}
 use mathlib.Core.Path.{_≡_}

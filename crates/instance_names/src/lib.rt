@@ -1,5 +1,5 @@
 // Causes 4, 5, 7, 8, 9, 10 and 11 of an INSTANCE field, in their order, the names of its substitutions noted. specs/Sites.antt and
-// specs/Causes.antt say what by position and over the arrays; specs/Names.antt what that is by the rules.
+// specs/Causes.antt say what by position and over the store; specs/Names.antt what that is by the rules.
 pub mod clashes;
 pub mod implied;
 pub mod limits_kept;

@@ -1,4 +1,4 @@
--- What INSTANCE leaves in the arrays shows what the rules add.
+-- What INSTANCE leaves in the store shows what the rules add.
 use borrow.Author.Tests.{le-ltb, ne-eqb}
 use mathlib.Core.List.{List, [], _++_, _∷_, append-nil, map}
 use mathlib.Core.Path.{_∙_, _≡_, ap, refl, subst, subst⁻¹, sym}
@@ -201,7 +201,7 @@ module _ (v : Store) (c : Counts) (s : State) (holds : Holds v c s) (room : c .f
   abbrev total : ℕ
   total = c .definitions + count
 
-  -- the definitions that are brought are those in the array
+  -- the definitions that are brought are those in the order of the module instanced
   pub order-there : orderOf (v .orders) (v .heads) q ≡ gs
   order-there = ap (λ (M : Module). M .definitions) (holds .shown q (omega arith) ∙ sym found)
 

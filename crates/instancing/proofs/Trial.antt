@@ -1,5 +1,5 @@
 -- The additions one after the other, from nothing: MODULE 1, VARIABLE 2, a definition 3, the end; MODULE 4, VARIABLE 2, and module 1
--- instanced as 5. So the arrays that show a state are there, and each law's premises can be met.
+-- instanced as 5. So a store that shows a state is there, and each law's premises can be met.
 use mathlib.Core.List.{[], _∷_}
 use mathlib.Core.Option.{some}
 use mathlib.Core.Path.{_≡_, refl}

@@ -122,7 +122,8 @@ pub fn note_instance(store: &mut [u16; Store::LENGTH], m: usize, o: usize, name:
     push_context(store, m, o as u16);
 }
 
-// An INSTANCE field of module q: its name or 0, its parameter count, where its first substitution stands, and how many are written.
+// An INSTANCE field of module q: its name or 0, its parameter count, where its first substitution stands, and how many
+// are written with the module that the field stands in, as one number.
 pub fn add_instance(
     store: &mut [u16; Store::LENGTH],
     c: Counts,

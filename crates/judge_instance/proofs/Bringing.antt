@@ -1,4 +1,4 @@
--- What the rows of the arrays hold after an INSTANCE field.
+-- What the rows of the store hold after an INSTANCE field.
 use mathlib.Core.List.{List, [], _∷_}
 use mathlib.Core.Path.{_∙_, _≡_, ap, refl}
 use lib.ListN.{getD, length}

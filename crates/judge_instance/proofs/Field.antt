@@ -1,4 +1,4 @@
--- The arrays after the whole field: what they keep, and what is new.
+-- The store after the whole field: what it keeps, and what is new.
 use mathlib.Core.List.{List}
 use mathlib.Core.Path.{_∙_, _≡_}
 use lib.ListN.{getD, length}

@@ -1,4 +1,4 @@
--- The arrays show the state after the field.
+-- The store shows the state after the field.
 use mathlib.Core.Bool.{false}
 use mathlib.Core.List.{List, []}
 use mathlib.Core.Path.{_≡_}

@@ -1,4 +1,4 @@
--- A declared name that is not written stands for the operator of that name in the module that is open: the arrays show it.
+-- A declared name that is not written stands for the operator of that name in the module that is open: the store shows it.
 use borrow.Author.Tests.{le-leb, le-ltb, lt-ltb, ltb-false, ltb-true, eqb-true}
 use mathlib.Core.Bool.{Bool, cond, false, true}
 use mathlib.Core.List.{List, map}

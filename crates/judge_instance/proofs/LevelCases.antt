@@ -236,11 +236,6 @@ seen-whole a site codes b r contexts heads q count e t =
     let z : q * contextLength + count - q * contextLength ≡ count = omega arith in
     subst (λ (n : ℕ). LevelsSeen a site codes b (part contexts (q * contextLength) n) r) (z ∙ e) t
 
--- cause_in
-pub later-judged : (a : Around) (site : Site) (codes gs : List ℕ) (b : Bool) (seen : Seen) (named : Bool) (r : ℕ) → b ≡ constantCodes (a .words) (a .facts) codes gs
-    → LevelsSeen a site codes b codes seen → named ≡ instanceAmong (a .facts) codes → r ≡ firstNumber (laterCauses b seen named) → LaterJudged a site codes gs r
-later-judged a site codes gs b seen named r e l n c = record { constant = b; seen = seen; named = named; constancy = e; levels = l; instances = n; cause = c }
-
 -- later_cause
 pub later-own : (s refs numbers words names facts contexts heads : List ℕ) (site : Site) (codes gs : List ℕ) (r : ℕ) → numbers ≡ numbersFrom 0 maxDefinitions
     → LaterJudged (around s refs numbers words names facts contexts heads) site codes gs r → LaterJudged (around s refs itselves words names facts contexts heads) site codes gs r

@@ -1,4 +1,4 @@
--- The arrays after an INSTANCE field show its link.
+-- The store after an INSTANCE field shows its link.
 use borrow.Author.Tests.{eqb-true}
 use mathlib.Core.Bool.{Bool, _&&_, cond, false, not, true}
 use mathlib.Core.List.{List}

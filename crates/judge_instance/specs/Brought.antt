@@ -1,4 +1,4 @@
--- What bringing leaves: the arrays with the field added, the forms of what it brought, and the answer.
+-- What bringing leaves: the store with the field added, the forms of what it brought, and the answer.
 use mathlib.Core.List.{List}
 use mathlib.Core.Path.{_≡_}
 use Prim.Native.Nat.{ℕ, _+_, _*_, _≤_, _<_}

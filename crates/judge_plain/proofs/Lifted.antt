@@ -1,4 +1,4 @@
--- The causes over the arrays are the rules' causes, and what the functions leave shows the state with the field added.
+-- The causes over the store are the rules' causes, and what the functions leave shows the state with the field added.
 use borrow.Author.Tests.{le-leb, le-ltb, lt-leb, lt-ltb, ne-eqb}
 use mathlib.Core.Bool.{Bool, _||_, cond, false, true}
 use mathlib.Core.List.{List, [], _∷_}

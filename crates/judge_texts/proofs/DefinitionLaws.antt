@@ -205,7 +205,7 @@ module _ (file : List ℕ) (fs : List Field) (s : State) (rs : List Row) (v : St
       same i h =
           text-law file fs s rs v c p refs words stands (field .bytes) (field .short) at l e inside q kept params small refs′ t x .before i (omega (arith, begins))
 
-      -- the new definition is an own one, its text where the arrays say
+      -- the new definition is an own one, its text where the store says
       new-own : (D : ℕ) → c .definitions ≡ D → Own v′ file refs′ (declarationsOf fs ++ []) (add s f) (add s f .bytes) (getD (rowsAfter s rs f) D noRow) D
       new-own D d =
           let there : length (s .definitions) ≡ D = sym (stands .holds .definitions) ∙ d in

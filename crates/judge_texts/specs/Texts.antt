@@ -1,10 +1,10 @@
--- What the judging functions answer and leave, over the arrays.
+-- What the judging functions answer and leave, over the store.
 use mathlib.Core.Bool.{Bool, cond, false, true}
 use mathlib.Core.List.{List}
 use mathlib.Core.Path.{_≡_}
 use Prim.Native.Nat.{ℕ}
 use lib.Dec.{eqb, leb, ltb}
-use lib.ListN.{replicate, set}
+use lib.ListN.{replicate}
 use Rattle.limits.specs.Limits.{maxArity, maxDefinitions, maxNesting}
 use Rattle.theory.specs.Lists.{isSome}
 use Rattle.tokens.specs.Expr.{exprAt}

@@ -1,7 +1,6 @@
 // Definition fields.
-ghost use mathlib.Core.List.{List};
 ghost use mathlib.Core.Path.{_≡_};
-ghost use Prim.Native.Nat.{ℕ, _+_, _≤_, _<_};
+ghost use Prim.Native.Nat.{_+_, _≤_, _<_};
 ghost use lib.ListN.{length};
 ghost use Rattle.limits.specs.Limits.{fileBytes, maxDefinitions, maxModules};
 ghost use Rattle.context.specs.Entries.{afterDefinitions};

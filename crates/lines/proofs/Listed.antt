@@ -1,4 +1,4 @@
--- The text of the arrays is the rules' listing of the state that they show.
+-- The text by the store and the forms is the rules' listing of the state that they show.
 use borrow.Author.Tests.{le-ltb}
 use mathlib.Core.Bool.{Bool, cond}
 use mathlib.Core.List.{List, [], _++_, _∷_, append-assoc, append-nil}
@@ -82,7 +82,7 @@ module _ (v : Store) (words : List ℕ) (s : State) (decls : Declarations)
       (λ i l. subst (λ (j : ℕ). lineAt (v .names) (v .facts) words j ≡ definitionLine s j (definitionAt s i)) (sym (zero-add i)) (line-right i l)) in
       ap (λ (x : List ℕ). line ((111 ∷ 107 ∷ []) ∷ decimal n ∷ []) ++ x) lines
 
--- the same of arrays that hold the state
+-- the same where the store shows the state
 pub text-listed : (v : Store) (c : Counts) (s : State) (words : List ℕ) (decls : Declarations) → Holds v c s → Within s → Shows (sceneOf itselves words) decls s
     → textOf (v .names) (v .facts) words (c .definitions) ≡ listing (result s)
 text-listed v c s words decls shown small forms =

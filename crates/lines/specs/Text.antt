@@ -1,4 +1,4 @@
--- The listing of what the arrays hold.
+-- The listing of what the store and the forms hold.
 use mathlib.Core.List.{List, [], _∷_, _++_}
 use Prim.Native.Nat.{ℕ, zero, suc, _+_, _*_}
 use lib.ListN.{getD}

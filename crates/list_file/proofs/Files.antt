@@ -7,8 +7,7 @@ use Prim.Native.Nat.{ℕ, _≤_, _<_}
 use native.Mathlib.Omega.{arith}
 use lib.Dec.{ltb}
 use lib.ListN.{length, length-replicate, replicate}
-use Rattle.limits.specs.Limits.{cardMemoryBytes, fileBytes, maxDefinitions}
-use Rattle.limits.specs.Sizes.{codeCount, contextsLength, factsLength, headsLength, ordersLength}
+use Rattle.limits.specs.Limits.{cardMemoryBytes, fileBytes}
 use Rattle.theory.proofs.Lists.{or-true}
 use Rattle.rules.specs.Bytes.{isEmpty}
 use Rattle.rules.specs.Listing.{listing, listingOf}
@@ -16,7 +15,7 @@ use Rattle.rules.specs.Run.{checked, judgeFile, overwrite, refusal}
 use Rattle.store.specs.Store.{Store, empty}
 use Rattle.context.specs.declared.Counts.{Counts}
 use Rattle.resolve.proofs.Numbers.{declarationsOf}
-use Rattle.checker.specs.Settles.{Few, Settles}
+use Rattle.checker.specs.Settles.{Settles}
 use Rattle.checker.specs.declared.Reply.{Reply}
 use Rattle.checker.specs.declared.Reply.the-variants.{Accepted, Refused}
 use Rattle.lines.proofs.Listed.{text-listed}

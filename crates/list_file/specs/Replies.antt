@@ -1,4 +1,4 @@
--- The text of a reply, from the arrays.
+-- The text of a reply, from the store.
 use mathlib.Core.List.{List}
 use Prim.Native.Nat.{ℕ}
 use Rattle.checker.specs.declared.Reply.{Reply}

@@ -3,8 +3,7 @@ ghost use mathlib.Core.Bool.{false};
 ghost use mathlib.Core.Path.{_≡_};
 ghost use Prim.Native.Nat.{_≤_};
 ghost use lib.ListN.{length};
-ghost use Rattle.limits.specs.Limits.{fileBytes, maxDeclarations, maxDefinitions};
-ghost use Rattle.limits.specs.Sizes.{codeCount};
+ghost use Rattle.limits.specs.Limits.{fileBytes};
 ghost use Rattle.levels.specs.Tables.{tableWords};
 ghost use Rattle.rules.specs.Bytes.{isEmpty};
 ghost use Rattle.rules.specs.Listing.{listingOf};
@@ -46,7 +45,7 @@ fn put_reply(
     }
 }
 
-// A file of lawful size, judged in arrays that are empty.
+// A file of lawful size, judged in a store that is empty.
 fn list_in(
     file: &[u8],
     out: &mut [u8],

@@ -1,4 +1,4 @@
--- The replies from the arrays, case by case as the code goes.
+-- The replies from the store, case by case as the code goes.
 use borrow.Author.Tests.{le-leb, lt-leb}
 use mathlib.Core.Bool.{Bool, cond}
 use mathlib.Core.List.{List}

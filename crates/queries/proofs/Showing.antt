@@ -1,4 +1,4 @@
--- The replies from the arrays are the rules', where the arrays show a state.
+-- The replies from the store are the rules', where it shows a state.
 use borrow.Author.Tests.{le-ltb, leb-false, leb-true, lt-ltb}
 use mathlib.Core.Bool.{Bool, cond, false, true, _&&_}
 use mathlib.Core.List.{List}
@@ -91,7 +91,7 @@ module _ (file : List ℕ) (fs : List Field) (s : State) (rs : List Row) (v : St
           let k : ltb h (length (s .definitions)) ≡ true = lt-ltb h (length (s .definitions)) (omega (arith, counted)) in
           ap result (like-shown cards before e g h a b) ∙ sym (ap₂ (alikeBy s g h) l k)
 
-  -- BODY. Of a brought definition the arrays keep the original's.
+  -- BODY. Of a brought definition the store keeps the original's.
   pub body-shown : (g : ℕ) → bodyIn (bodyAt (v .facts) (c .definitions) g) ≡ bodyReply g s
   unfolding bodyAt
   body-shown g = go (leb (c .definitions) g) refl

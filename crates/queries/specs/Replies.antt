@@ -1,4 +1,4 @@
--- What the reply to a question is, by the arrays that show the state of an accepted file.
+-- What the reply to a question is, by the store that shows the state of an accepted file.
 use mathlib.Core.Bool.{Bool, cond, true, _&&_}
 use mathlib.Core.List.{List}
 use mathlib.Core.Path.{_≡_}
@@ -37,7 +37,7 @@ alikeAt cards n g h = cond (leb n g) (Refused 17 0) (cond (leb n h) (Refused 17 
 unfoldable pub bodyAt : List ℕ → ℕ → ℕ → Replied
 bodyAt facts n g = cond (leb n g) (Refused 17 0) (Located (firstAt facts g) (countAt facts g))
 
--- The reply to a question is the rules', if the arrays and counts show a state that some fields lead to, and the cards are filled.
+-- The reply to a question is the rules', if the store and the counts show a state that some fields lead to, and the cards are filled.
 pub record Replies (q : Question) (v : Store) (words cards : List ℕ) (c : Counts) (expr levels : List ℕ) (r : Replied) : Type 0 where
   pub reply : (file : List ℕ) (fs : List Field) (s : State) (rs : List Row) (p : Phase) (refs before : List ℕ)
       → Standing file fs s rs v c p refs words → cards ≡ memoryAfter (result s) before

@@ -22,7 +22,7 @@ use limits::Limits;
 use store::Lent;
 use store::Store;
 
-// After the file was judged: its refusal, or the reply in the arrays, which then show the state that the file leads to.
+// After the file was judged: its refusal, or the reply by the store, which then shows the state that the file leads to.
 fn expand_after(
     reply: Reply,
     expr: &[u8],
@@ -43,7 +43,7 @@ fn expand_after(
     }
 }
 
-// A file of lawful size, judged in arrays that are empty, and the expression expanded from them.
+// A file of lawful size, judged in a store that is empty, and the expression expanded from it.
 fn expand_in(
     expr: &[u8],
     params: u8,

@@ -56,7 +56,7 @@ pub enum BodyReply {
     Refused(u8, usize),
 }
 
-// After the file was judged: its refusal, or the reply to the question in the arrays, which then show the state that the file leads to.
+// After the file was judged: its refusal, or the reply to the question by the store, which then shows the state that the file leads to.
 fn reply_after(
     reply: Reply,
     question: Question,
@@ -76,7 +76,7 @@ fn reply_after(
     }
 }
 
-// A file of lawful size, judged in arrays that are empty, and the question answered from them.
+// A file of lawful size, judged in a store that is empty, and the question answered from it.
 fn ask_in(
     question: Question,
     expr: &[u8],

@@ -1,4 +1,4 @@
-// The reply to a question about a file that was accepted, from the arrays that show its state.
+// The reply to a question about a file that was accepted, from the store that shows its state.
 ghost use mathlib.Core.Path.{_≡_};
 ghost use Prim.Native.Nat.{_≤_, _<_};
 ghost use lib.ListN.{length};
@@ -55,7 +55,7 @@ fn wide(x: u16) -> usize
     x as usize
 }
 
-// Where the body of one of n definitions stands: of a brought one the arrays keep where the original's does.
+// Where the body of one of n definitions stands: of a brought one the store keeps where the original's does.
 fn body_reply(store: &[u16; Store::LENGTH], n: usize, d: u32) -> Replied
     requires { ⌜ n ≤ maxDefinitions ⌝ }
     ensures { λ r. ⌜ r ≡ bodyAt (held (now (store .entry)) .facts) n d ⌝ }
@@ -78,7 +78,7 @@ fn of_level(reply: Asked) -> Replied
     }
 }
 
-// The reply to a question. The arrays are those of the file that was checked, which has c of each kind; the card memory is filled.
+// The reply to a question. The store is that of the file that was checked, which has c of each kind; the card memory is filled.
 pub fn reply_to(
     question: Question,
     expr: &[u8],

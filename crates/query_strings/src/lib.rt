@@ -4,7 +4,6 @@ pub mod steps;
 pub mod walk;
 
 ghost use Prim.Native.Nat.{_^_, _-_, _<_, _≤_};
-ghost use mathlib.Core.Path.{_≡_};
 ghost use lib.ListN.{length};
 ghost use Rattle.limits.specs.Limits.{maxModules};
 ghost use Rattle.context.specs.Parts.{part};

@@ -44,7 +44,7 @@ pub record Right (s : State) (Γ : Context) (decls : Declarations) (n : ℕ) (fi
 one-tree : (g : Found) (t t′ : Expr) (y y′ : ℕ) → g ≡ found t y → g ≡ found t′ y′ → t ≡ t′
 one-tree g t t′ y y′ p q = let r : found t y ≡ found t′ y′ = sym p ∙ q in cc
 
--- the arrays show a state that the fields fs reach, and module m is ended or open
+-- the store shows a state that the fields fs reach, and module m is ended or open
 module _ (v : Store) (c : Counts) (s : State) (holds : Holds v c s) (fs : List Field) (declares : Declares (v .facts) c fs) (origins : Origins fs s) (good : Good s)
     (m : ℕ) (there : m ≤ c .modules) where
   abbrev Γ : Context

@@ -192,7 +192,7 @@ module _ (s : State) (decls : Declarations) (Γ : Context) (names facts cs : Lis
     pub walk-length : length refs′ ≡ length refs
     walk-length = ap length notes ∙ noted-length (tree .0) (numberIn names facts cs) refs
 
--- The names of a file mean what the rules find, where the arrays show a state.
+-- The names of a file mean what the rules find, where the store shows a state.
 module _ (v : Store) (c : Counts) (s : State) (holds : Holds v c s) (decls : Declarations) (few : length decls ≤ maxDeclarations)
     (m : ℕ) (there : m ≤ c .modules) (numbered : All (Numbered (v .facts) decls) (moduleNo s m .context))
     (known : All (EntryKnown (length (s .definitions))) (moduleNo s m .context)) (file : List ℕ) (bytes : Bytes file) where

@@ -1,4 +1,4 @@
--- What a name means as a number, found in the arrays that keep what the fields read so far have added. Definitions only.
+-- What a name means as a number, found in the store. Definitions only.
 use mathlib.Core.Bool.{cond}
 use mathlib.Core.List.{List}
 use Prim.Native.Nat.{ℕ, _+_}

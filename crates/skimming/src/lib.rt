@@ -26,7 +26,7 @@ use tables::token::arguments_in;
 use tables::token::token_in;
 use tokens::Token;
 
-// Where the codes of a context stand in the lent array, and how many parameters are known.
+// Where the codes of a context stand among the contexts of the store, and how many parameters are known.
 pub struct ContextAt {
     pub from: usize,
     pub end: usize,

@@ -60,7 +60,7 @@ shapes-same : (shapes : List ℕ) → ShapesFit shapes → shapeIn shapes ≡ sh
 unfolding shapeIn
 shapes-same shapes h = fun-ext (λ n. rw (lt-ltb (getD shapes n 0) shapeLimit (h n)))
 
--- the names of the declarations, by the arrays
+-- the names of the declarations, by the store
 module _ (names declared : List ℕ) (names-fit : NumbersFit names) where
   names-small : (d : ℕ) → getD (declarationsIn names declared) d noDeclaration .1 < 65536
   unfolding declarationsIn
@@ -75,7 +75,7 @@ module _ (names declared : List ℕ) (names-fit : NumbersFit names) where
       → (d : ℕ) → d < length decls → getD decls d noDeclaration .1 ≡ getD (declarationsIn names declared) d noDeclaration .1
   names-same decls few shown d h = sym (shown d h) ∙ name-shown names declared d (omega arith)
 
-  -- what was put by the arrays is the string of a text, or of what a name implies
+  -- what was put by the store is the string of a text, or of what a name implies
   module _ (shapes : List ℕ) (P : Setting) (out out′ : List ℕ) (q′ : ℕ) (fits : Bool) (e : fits ≡ leb q′ (length out)) where
     pub spells-text : (look : ℕ → Token → ℕ) (s : List ℕ) (bytes : (i : ℕ) → getD s i 0 < 256) (n at : ℕ) (t : Expr) (y : ℕ) → exprAt n s at ≡ found t y
         → Put out 0 (bytesOf (spell (shapeIn shapes) (termIn look (declarationsIn names declared) P t))) out′ q′

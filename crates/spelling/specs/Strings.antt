@@ -31,7 +31,7 @@ ShapesFit shapes = (n : ℕ) → getD shapes n 0 < shapeLimit
 abbrev pub NumbersFit : List ℕ → Type 0
 NumbersFit l = (i : ℕ) → getD l i 0 < 65536
 
--- the arrays hold the declarations' names
+-- the store holds the declarations' names
 abbrev pub NamesShown : List ℕ → List ℕ → Declarations → Type 0
 NamesShown names declared decls = (d : ℕ) → d < length decls → getD names (getD declared d 0) 0 ≡ getD decls d noDeclaration .1
 

@@ -33,7 +33,7 @@ use Rattle.standing.specs.Chained.{Chained, Own, Through}
 use Rattle.standing.specs.Grows.{Grows, RowsKept}
 use Rattle.standing.specs.Standing.{AtField, DeclaredCodes, Standing, itselves}
 use Rattle.standing.proofs.Advancing.{bytes-more, declarations-same, few-declared, grows, none-counted, numbers-kept, stands-after, still-codes}
-use Rattle.standing.proofs.Forms.{codes-kept, definition-form}
+use Rattle.standing.proofs.Forms.{definition-form}
 use Rattle.standing.proofs.Links.{chained-kept, rows-counted}
 use Rattle.standing.proofs.Texts.{SameBelow}
 

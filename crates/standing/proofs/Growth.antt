@@ -1,4 +1,4 @@
--- Every lawful field only adds to the arrays: what shows the state before it and the state after it shows that they grow.
+-- Every lawful field only adds to the store: what shows the state before it and the state after it shows that it grows.
 use borrow.Author.Tests.{ltb-false}
 use mathlib.Core.Bool.{Bool, cond, false, true}
 use mathlib.Core.List.{List, [], _++_, _∷_, append-assoc, append-nil, map, map-append}

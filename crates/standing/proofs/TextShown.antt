@@ -145,7 +145,7 @@ mutual
     noteds-below ts look m (noted look t refs) mid hi b (rw (noted-length t look refs) l) y,
   )
 
--- The arrays show the state s that the fields fs reach; the text is the expression e of l bytes at a position, judged in the module that is open.
+-- The store shows the state s that the fields fs reach; the text is the expression e of l bytes at a position, judged in the module that is open.
 module _ (v : Store) (c : Counts) (s : State) (holds : Holds v c s) (fs : List Field) (declares : Declares (v .facts) c fs) (origins : Origins fs s) (good : Good s)
     (file : List ℕ) (bytes : Bytes file) (at l : ℕ) (e : Expression) (room : at + l ≤ length file) (q : expression .read (part file at l) ≡ some e)
     (kept : overLimit e ≡ false) (n : ℕ) (refs refs′ : List ℕ) (wide : at + l ≤ length refs) (u w : Bool) (x : ℕ)

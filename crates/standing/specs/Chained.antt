@@ -1,4 +1,4 @@
--- Every definition's chain of instances, as the arrays show it.
+-- Every definition's chain of instances, as the store shows it.
 use mathlib.Core.List.{List}
 use mathlib.Core.Logic.{_⊎_}
 use mathlib.Core.Path.{_≡_}
@@ -14,7 +14,7 @@ use Rattle.worlds.specs.World.{In, Link, brings}
 use Rattle.worlds.proofs.Steps.{ownRow}
 use Rattle.standing.specs.Shown.{LinkShown, TextShown}
 
--- an own definition: its text stands where the arrays say
+-- an own definition: its text stands where the store says
 pub record Own (v : Store) (file refs : List ℕ) (decls : Declarations) (s : State) (end : ℕ) (r : Row) (D : ℕ) : Type 0 where
   pub row : r ≡ ownRow D
   pub unlinked : linkAt (v .facts) D ≡ 0

@@ -1,4 +1,4 @@
--- What a field leaves of the arrays.
+-- What a field leaves of the store.
 use mathlib.Core.List.{List, _++_}
 use mathlib.Core.Path.{_≡_}
 use Prim.Native.Nat.{ℕ, _+_, _*_, _≤_, _<_}
@@ -14,7 +14,7 @@ pub record RowsKept (v : Store) (c : Counts) (v′ : Store) : Type 0 where
   pub names : (o : ℕ) → Known (c .fields) (c .definitions) o → getD (v′ .names) o 0 ≡ getD (v .names) o 0
   pub facts : (o k : ℕ) → Known (c .fields) (c .definitions) o → k < columnCount → getD (v′ .facts) (columnCount * o + k) 0 ≡ getD (v .facts) (columnCount * o + k) 0
 
--- The arrays after a field, by what they keep of those before it: the modules ended stay, and the open one's context only grows.
+-- The store after a field, by what it keeps of the one before it: the modules ended stay, and the open one's context only grows.
 pub record Grows (v : Store) (c : Counts) (v′ : Store) (c′ : Counts) : Type 0 where
   pub names : (o : ℕ) → Known (c .fields) (c .definitions) o → getD (v′ .names) o 0 ≡ getD (v .names) o 0
   pub facts : (o k : ℕ) → Known (c .fields) (c .definitions) o → k < columnCount → getD (v′ .facts) (columnCount * o + k) 0 ≡ getD (v .facts) (columnCount * o + k) 0

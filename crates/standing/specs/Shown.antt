@@ -1,4 +1,4 @@
--- What is known of a text that was read, and of an INSTANCE field: the arrays and the table of names show it.
+-- What is known of a text that was read, and of an INSTANCE field: the store and the table of names show it.
 use mathlib.Core.Bool.{true}
 use mathlib.Core.List.{List}
 use mathlib.Core.Option.{some}

@@ -49,7 +49,7 @@ pub record DeclaredCodes (v : Store) (decls : Declarations) (declared : List ℕ
   pub code : (d : ℕ) → d < length decls → (maxDefinitions ≤ getD declared d 0) × (getD declared d 0 < codeCount)
   pub few : (d : ℕ) → d < length decls → kindArity (getD decls d noDeclaration .0) ≤ maxArity
 
--- The fields fs were read, each lawful; they lead to the state s, whose definitions have the worlds rs. The arrays v and the counts c show s;
+-- The fields fs were read, each lawful; they lead to the state s, whose definitions have the worlds rs. The store v and the counts c show s;
 -- `refs` notes what the names of the texts read mean; `words` holds the form of each definition and declaration.
 pub record Standing (file : List ℕ) (fs : List Field) (s : State) (rs : List Row) (v : Store) (c : Counts) (p : Phase) (refs words : List ℕ) : Type 0 where
   pub holds : Holds v c s

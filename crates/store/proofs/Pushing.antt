@@ -1,6 +1,6 @@
 -- Several words written, as one change of the store.
 use mathlib.Core.List.{List}
-use mathlib.Core.Path.{_∙_, _≡_, ap, ap₂, refl}
+use mathlib.Core.Path.{_∙_, _≡_, ap, refl}
 use lib.ListN.{getD, set}
 use lib.Seq.{getD-set-other}
 use native.Mathlib.Omega.{arith}
@@ -9,7 +9,7 @@ use Rattle.limits.specs.Limits.{maxDefinitions}
 use Rattle.limits.specs.Sizes.{codeCount, columnCount, contextLength, factsLength}
 use Rattle.store.proofs.Regions.{fact-put, name-put}
 use Rattle.store.specs.Store.{Store, contextSlot, factsFrom, held, orderSlot, row, rowAt}
-use Rattle.store.specs.Updates.{grown, headed, inBoth, inContext, inOrder, longer, stored, withContexts, withHeads, withNumber, withOrders, withRow}
+use Rattle.store.specs.Updates.{grown, headed, inBoth, inContext, inOrder, longer, stored, withContexts, withHeads, withOrders, withRow}
 use Rattle.store.specs.declared.Facts.{Facts}
 
 pub row-read : (v : Store) (o a b c d e f : ℕ) → a ≡ getD (v .facts) (columnCount * o) 0 → b ≡ getD (v .facts) (columnCount * o + 1) 0 → c ≡ getD (v .facts) (columnCount * o + 2) 0

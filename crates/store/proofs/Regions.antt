@@ -1,4 +1,4 @@
--- A region read, a region written, and the regions that a write leaves as they are. No law asks for the length of the array but those of sizes.
+-- A region read, a region written, and the regions that a write leaves as they are. No law asks for the length of the array.
 use mathlib.Core.List.{List, _∷_}
 use mathlib.Core.Path.{_∙_, _≡_, ap, refl, sym}
 use lib.ListN.{List·getD-eq-default, drop, getD, length, length-take, replicate, set, take}
@@ -7,7 +7,7 @@ use native.Mathlib.Omega.{arith}
 use Prim.Native.Nat.{_+_, _-_, _<_, _≤_, suc, zero, ℕ}
 use Rattle.limits.specs.Limits.{maxDeclarations}
 use Rattle.limits.specs.Sizes.{codeCount, contextsLength, factsLength, headsLength, ordersLength, storeLength}
-use Rattle.store.specs.Store.{Store, contextsFrom, declaredFrom, empty, factsFrom, headsFrom, held, ordersFrom, region}
+use Rattle.store.specs.Store.{contextsFrom, declaredFrom, empty, factsFrom, headsFrom, held, ordersFrom, region}
 use Rattle.store.specs.Updates.{withContexts, withDeclared, withFacts, withHeads, withNames, withOrders}
 
 module _ (s : List ℕ) (a n : ℕ) where

@@ -13,7 +13,8 @@ use Rattle.store.specs.declared.Facts.{Facts}
 -- CONSTANT      argument count           its number          0                  0                  0                      0
 -- VARIABLE      variableKind             its number          0                  0                  0                      0
 -- INSTANCE      instanceKind + params    first brought       how many           module's number    first substitution at  substitutions, and the field's module
--- An own definition comes from its own number. The last of an INSTANCE field is the number of its substitutions + 256 × the module that it stands in.
+-- The two kinds are those of `context/specs/Entries`. An own definition comes from its own number. The last of an INSTANCE field is the number of
+-- its substitutions + 256 × the module that it stands in.
 -- contexts holds a list of codes for each module, orders a list of definition numbers, heads of each module its name and the lengths of the two.
 -- declared holds the code of each declaration. Declarations are numbered from 0 through the whole file.
 pub record Store : Type 0 where
@@ -92,7 +93,8 @@ row kind first count via source link = record { kind = kind; first = first; coun
 abbrev pub rowAt : Store → ℕ → Facts
 rowAt v o = row (kindAt (v .facts) o) (firstAt (v .facts) o) (countAt (v .facts) o) (viaAt (v .facts) o) (sourceAt (v .facts) o) (linkAt (v .facts) o)
 
--- heads holds of module m its name at m, the length of its context and the number of its definitions.
+-- heads holds of module m its name at m, the length of its context and the number of its definitions. The module that is open is the one
+-- after those ended, so that the end of a module copies nothing.
 abbrev pub contextSlot : ℕ → ℕ
 contextSlot m = placeCount + m
 

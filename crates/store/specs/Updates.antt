@@ -46,12 +46,15 @@ withCode contexts heads m o = set contexts (m * contextLength + getD heads (cont
 abbrev pub withNumber : List ℕ → List ℕ → ℕ → ℕ → List ℕ
 withNumber orders heads m g = set orders (m * maxDefinitions + getD heads (orderSlot m) 0) g
 
+-- a list one longer, by the place of its length,
 abbrev pub longer : List ℕ → ℕ → List ℕ
 longer heads slot = set heads slot (getD heads slot 0 + 1)
 
+-- both lists of module m one longer,
 unfoldable pub grown : List ℕ → ℕ → List ℕ
 grown heads m = set (set heads (contextSlot m) (getD heads (contextSlot m) 0 + 1)) (orderSlot m) (getD heads (orderSlot m) 0 + 1)
 
+-- the same of the store,
 abbrev pub inContext : Store → ℕ → ℕ → Store
 inContext v m o = withHeads (withContexts v (withCode (v .contexts) (v .heads) m o)) (longer (v .heads) (contextSlot m))
 

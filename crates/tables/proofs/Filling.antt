@@ -1,14 +1,14 @@
 -- Both tables filled, one after the other; and no tables.
 use borrow.Author.Tests.{ltb-false, ltb-true}
 use mathlib.Core.Bool.{Bool, false, true}
-use mathlib.Core.List.{List, [], _++_, append-nil}
-use mathlib.Core.Path.{_∙_, _≡_, ap, refl, subst, sym}
+use mathlib.Core.List.{List, _++_, append-nil}
+use mathlib.Core.Path.{_∙_, _≡_, ap, refl}
 use Prim.Native.Nat.{ℕ, _+_, _-_, _^_, _<_, _≤_}
 use native.Mathlib.Omega.{arith}
 use lib.Dec.{ltb}
 use lib.ListN.{List·getD-eq-default, drop, drop-of-length-le, getD, length, length-append, length-drop, length-take, take}
 use lib.Seq.{drop-at, getD-take, length-take-le, take-all, take-at}
-use borrow.Rule.Slice.PartMut.{postOf, putMid}
+use borrow.Rule.Slice.PartMut.{putMid}
 use Rattle.store.specs.Store.{Store, region}
 use Rattle.tables.specs.Brought.{Nexted, nextBytes}
 use Rattle.tables.specs.Names.{Tabled, Zeroed, nameBytes}

@@ -96,7 +96,7 @@ module _ (file refs : List ℕ) (v : Store) (n : ℕ) (numbers currents outers :
   abbrev declared : List ℕ
   declared = v .declared
 
-  -- declarations alike by the arrays are the same
+  -- declarations alike by the store are the same
   declared-same : (x : Told file refs v declared n) (e f : ℕ) → e < length (x .decls) → f < length (x .decls) → areAlike names facts declared e f ≡ true
       → getD (x .decls) e noDeclaration ≡ getD (x .decls) f noDeclaration
   unfolding areAlike

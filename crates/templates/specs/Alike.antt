@@ -1,4 +1,4 @@
--- Declarations of the same name and kind, as the arrays tell them.
+-- Declarations of the same name and kind, as the store tells them.
 use mathlib.Core.Bool.{Bool, _&&_, true}
 use mathlib.Core.List.{List}
 use mathlib.Core.Path.{_≡_}

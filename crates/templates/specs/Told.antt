@@ -1,4 +1,4 @@
--- What stands when an expansion is asked for: the arrays show every chain of a state.
+-- What stands when an expansion is asked for: the store shows every chain of a state.
 use mathlib.Core.List.{List}
 use Prim.Native.Nat.{ℕ, _≤_}
 use Rattle.limits.specs.Limits.{fileBytes, maxDeclarations}

@@ -151,7 +151,7 @@ module _ (file refs : List ℕ) (v : Store) (declared : List ℕ) (n D : ℕ) (c
                 (uses-module ds lawful bs (ready .worlds .book .disjoint) w (brings k (t .from)) D onward known) j x);
           }
 
-      -- the numbers that the arrays hold of the field
+      -- the numbers that the store holds of the field
 
       pub code-there : codeAt (v .facts) cur ≡ fieldCode (t .field)
       code-there = omega (arith, t .linked)

@@ -1,4 +1,4 @@
--- What a definition and the stand-ins along its chain stand for, by the texts that the arrays show.
+-- What a definition and the stand-ins along its chain stand for, by the texts that the store shows.
 use mathlib.Core.Bool.{Bool, false, true}
 use mathlib.Core.List.{List, [], _++_, _∷_}
 use mathlib.Core.Option.{Option, some}

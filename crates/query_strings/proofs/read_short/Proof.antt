@@ -1,4 +1,4 @@
--- `read_short`: tables of no entries, and the column.
+-- `read_short`: no tables, and the column.
 use Rattle.tables.proofs.Filling.{none-serve}
 use borrow.Author.Needs.{needs}
 use Rattle.query_strings.proofs.read_short.Statement.{statement}

@@ -1,4 +1,4 @@
--- `walk::judge_short`: tables of no entries.
+-- `walk::judge_short`: no tables.
 use Rattle.tables.proofs.Filling.{none-serve}
 use borrow.Author.Needs.{needs}
 use Rattle.asking.proofs.walk.judge_short.Statement.{statement}

@@ -1,4 +1,3 @@
-use mathlib.Core.Path.{_∙_, _≡_, refl}
 use Prim.Native.Nat.{_-_}
 use lib.ListN.{length}
 use Rattle.fields.specs.Cursor.{placeOf}

@@ -1,4 +1,4 @@
-use Rattle.context.proofs.Written.{declaration-written, definition-written, row-room}
+use Rattle.context.proofs.Written.{declaration-written, row-room}
 use borrow.Author.Needs.{needs}
 use Rattle.context.proofs.adding.add_declaration.Statement.{statement}
 use Rattle.context.proofs.adding.add_declaration.Tie as tie

@@ -1,4 +1,4 @@
--- `expansion::expand_fields`: empty arrays.
+-- `expansion::expand_fields`: an empty store.
 use Rattle.checker.proofs.Answers.{starts-empty}
 use borrow.Author.Needs.{needs}
 use Rattle.queries.proofs.expansion.expand_fields.Statement.{statement}

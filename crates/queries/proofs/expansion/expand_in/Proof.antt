@@ -1,4 +1,4 @@
--- `expansion::expand_in`: the arrays show the state that the file leads to.
+-- `expansion::expand_in`: the store shows the state that the file leads to.
 use Rattle.queries.proofs.Asking.{bounded}
 use Rattle.queries.proofs.Extending.{expand-concluded}
 use borrow.Author.Needs.{needs}
