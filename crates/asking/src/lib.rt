@@ -1,5 +1,7 @@
 // The level query's expression: "judged like a THEOREM field with its parameters, without cause 12 and of any length", at the end of a
 // module. It may be longer than any file, so no table stands beside it: each name is looked up where it stands.
+#![tactic(auto)]
+
 pub mod reading;
 pub mod steps;
 pub mod walk;
@@ -18,7 +20,7 @@ use resolve::Looked;
 use store::{Lent, Store};
 
 // The reply: a level, 0 to 4; or the cause of a refusal and its place.
-#[derive(Drop)]
+#[derive(Clone, Copy)]
 pub enum Asked {
     Level(u8),
     Refused(u8, usize),
@@ -26,7 +28,7 @@ pub enum Asked {
 
 // Whether an expression keeps the limits; and if it does, the form of its level, whether its names are known and rightly counted, and the position
 // after it.
-#[derive(Drop)]
+#[derive(Clone, Copy)]
 pub struct Walked {
     pub kept: bool,
     pub form: u64,

@@ -19,14 +19,14 @@ use tables::token::{arguments_in, token_in};
 use tokens::Token;
 
 // The variables bound around a token: their levels, 0 or 1 each, a bit for each, the nearest lowest; and how many they are.
-#[derive(Drop)]
+#[derive(Clone, Copy)]
 pub struct Scope {
     pub bits: u64,
     pub bound: usize,
 }
 
 // What is known where a token stands: the variables bound around it, the label of its place, the form so far, and what its names come to so far.
-#[derive(Drop)]
+#[derive(Clone, Copy)]
 pub struct Reached {
     pub scope: Scope,
     pub label: u8,
@@ -36,7 +36,7 @@ pub struct Reached {
 
 // Whether a token keeps the limits; if it does, how many arguments follow and the labels that it gives them, the variables bound in the last of
 // them, the form with the token's own level added, and what is known after it.
-#[derive(Drop)]
+#[derive(Clone, Copy)]
 pub struct Step {
     pub kept: bool,
     pub count: u8,

@@ -23,7 +23,7 @@ use store::{Lent, Store};
 use tables::{Long, Tables};
 
 // What arguments inherit: the variables bound around them, and in the last of them; the label of their place; and inside that the label of each.
-#[derive(Drop)]
+#[derive(Clone, Copy)]
 pub struct Under {
     pub around: Scope,
     pub within: Scope,
@@ -32,7 +32,7 @@ pub struct Under {
 }
 
 // Where arguments stand, how many they are and how deep they may nest, and the form to which they are added.
-#[derive(Drop)]
+#[derive(Clone, Copy)]
 pub struct Args {
     pub at: usize,
     pub count: u8,

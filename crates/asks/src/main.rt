@@ -3,6 +3,8 @@
 // expression and the number of bytes of output to lend; the file, the levels and the expression each after its length. All numbers are of three
 // bytes, most significant first. For each it prints the reply and a checksum of the whole card memory, lent or not; of an expansion also one of
 // the whole output. Ends where the input does, or at a number that is more than there is room for.
+#![tactic(auto)]
+
 ghost use Rattle.std.specs.Prelude.{◌≤◌, ◌<◌, length};
 
 use libc::{STDIN_FILENO, STDOUT_FILENO};

@@ -1,4 +1,6 @@
 // A table of the first calls of one number in a string: where the arguments of each begin and end.
+#![tactic(auto)]
+
 ghost use Rattle.std.specs.Prelude.{◌≡◌, ◌&&◌, false, ◌+◌, ◌*◌, ◌^◌, ◌<◌, ◌≤◌, min, eqb, ltb, get_or, length};
 ghost use Rattle.rows.specs.Rows.{arity_column};
 ghost use Rattle.strings.specs.Read.{string_at, symbol_of};
@@ -13,7 +15,7 @@ use rewriting::is_call;
 use strings::{Sign, done, left_after, opened, symbol_at, width};
 
 // Where a walk has ended, and how many calls stand before it; or that it went astray.
-#[derive(Drop)]
+#[derive(Clone, Copy)]
 pub struct Reached {
     pub ok: bool,
     pub at: usize,
@@ -21,7 +23,7 @@ pub struct Reached {
 }
 
 // Where a walk to the end of a term stands: what is wanted, the brackets open.
-#[derive(Drop)]
+#[derive(Clone, Copy)]
 pub struct Walk {
     pub ok: bool,
     pub at: usize,

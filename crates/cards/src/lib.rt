@@ -1,4 +1,6 @@
 // The lent card memory: the cards of the definitions, or zeros.
+#![tactic(auto)]
+
 ghost use Rattle.std.specs.Prelude.{◌≡◌, ◌≤◌, length, replicate};
 ghost use Rattle.limits.specs.Limits.{card_memory_bytes, max_definitions};
 ghost use Rattle.rules.specs.Run.{overwrite};

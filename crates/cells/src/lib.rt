@@ -1,4 +1,6 @@
 // The cells of the table of calls that a run keeps: numbers of four bytes, most significant first, in lent bytes.
+#![tactic(auto)]
+
 ghost use Rattle.std.specs.Prelude.{◌≡◌, cond, ◌+◌, ◌*◌, ◌/◌, ◌%◌, ◌^◌, ◌<◌, ◌≤◌, max, min, ltb, length};
 ghost use Rattle.std.proofs.lemmas.List.Edits.{sets};
 ghost use Rattle.symbols.specs.Spell.{max_params};
@@ -12,7 +14,7 @@ use tokens::number_at;
 // How the table is laid out: each call has `stride` words; the places where its arguments begin, each beginning where the one before it
 // ends, then the place where the last of them ends, and two words for a run. A shape speaks of `places` arguments, and there are words for
 // `room` calls.
-#[derive(Drop)]
+#[derive(Clone, Copy)]
 pub struct Layout {
     pub places: usize,
     pub stride: usize,
@@ -25,7 +27,7 @@ impl Layout {
 }
 
 // A place in the string, and how many calls stand before it, `room` at most.
-#[derive(Drop)]
+#[derive(Clone, Copy)]
 pub struct Place {
     pub at: usize,
     pub rank: usize,

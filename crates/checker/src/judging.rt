@@ -15,14 +15,14 @@ use judge_plain::{Judged, Phase};
 use store::{Lent, Store};
 
 // How a file is settled: the reply, and on acceptance what was counted.
-#[derive(Drop)]
+#[derive(Clone, Copy)]
 pub struct Verdict {
     pub reply: Reply,
     pub counts: Counts,
 }
 
 // After a field: whether the file is settled, and by which reply; else where the next field stands, and what stands before it.
-#[derive(Drop)]
+#[derive(Clone, Copy)]
 pub struct Turn {
     pub done: bool,
     pub reply: Reply,

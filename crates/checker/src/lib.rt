@@ -1,4 +1,6 @@
 // The check over a whole file: paper 01's public operation.
+#![tactic(auto)]
+
 pub mod judging;
 
 ghost use Rattle.std.specs.Prelude.{false, true, ◌≡◌, ◌≤◌, length};
@@ -17,7 +19,7 @@ use limits::Limits;
 use store::{Lent, Store};
 
 // What a check replies: the number of definitions; or a refusal's number and place.
-#[derive(Drop)]
+#[derive(Clone, Copy)]
 pub enum Reply {
     Accepted(usize),
     Refused(u8, usize),

@@ -2,6 +2,8 @@
 // after another, each the number of bytes of card memory to lend, then a file's length, both of three bytes, most significant first, and then
 // the file. For each it prints the reply and a checksum of the whole memory, lent or not: so the cards, the zeros of a refusal and every byte
 // that has to stay are seen. Ends where the input does, or at a number that is more than there is room for.
+#![tactic(auto)]
+
 ghost use Rattle.std.specs.Prelude.{◌≤◌, ◌<◌, length};
 
 use libc::{STDIN_FILENO, STDOUT_FILENO};

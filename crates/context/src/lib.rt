@@ -1,5 +1,7 @@
 // What the fields read so far have added: looked up and added to in the store. specs/Entries.antt says what it shows, specs/Holds.antt when that
 // is a state of the rules. Contracts speak of lists, by equality; the theorems in proofs/ say what that means for the state.
+#![tactic(auto)]
+
 pub mod adding;
 pub mod extending;
 pub mod lists;
@@ -9,14 +11,14 @@ ghost use Rattle.std.specs.Prelude.{◌≡◌, ◌<◌, ◌^◌};
 ghost use Rattle.context.specs.Entries.{no_counts, after_field};
 
 // A code found, or none.
-#[derive(Drop)]
+#[derive(Clone, Copy)]
 pub enum Code {
     At(u16),
     Absent,
 }
 
 // What a name is as an operator: a constant's code and argument count, a variable's code, a definition's number.
-#[derive(Drop)]
+#[derive(Clone, Copy)]
 pub enum Operator {
     Constant(u16, u16),
     Variable(u16),
@@ -25,7 +27,7 @@ pub enum Operator {
 }
 
 // What a name is as an instance: the number of the first definition brought, and how many.
-#[derive(Drop)]
+#[derive(Clone, Copy)]
 pub enum Brought {
     Brings(u16, u16),
     Nothing,
@@ -42,7 +44,7 @@ impl Kinds {
 }
 
 // Fields so far, declarations, modules ended, definitions.
-#[derive(Drop)]
+#[derive(Clone, Copy)]
 pub struct Counts {
     pub fields: usize,
     pub declarations: usize,

@@ -1,4 +1,6 @@
 // CONSTANT and VARIABLE fields with all tables kept: the store, and the forms of the declarations.
+#![tactic(auto)]
+
 ghost use Rattle.std.specs.Prelude.{◌≡◌, List, ℕ, length};
 ghost use Rattle.fields.specs.declared.Parts.TheVariants.{Constant, Variable};
 ghost use Rattle.levels.specs.Tables.{table_words};

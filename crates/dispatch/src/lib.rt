@@ -1,4 +1,6 @@
 // One field, judged by its own judge.
+#![tactic(auto)]
+
 ghost use Rattle.standing.specs.Standing.{Judging, Underway};
 ghost use Rattle.store.specs.Store.{held};
 

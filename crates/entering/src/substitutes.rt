@@ -18,7 +18,7 @@ use store::reading::{declared_at, fact_at, head_at, name_at};
 
 // An INSTANCE field: the instances' parameters around it, its own, the module that it stands in, where its substitutions begin, and how
 // many there are.
-#[derive(Drop)]
+#[derive(Clone, Copy)]
 pub struct Site {
     pub outer: usize,
     pub params: usize,

@@ -6,7 +6,7 @@ ghost use Rattle.entering.specs.Written.{written_at};
 use tokens::number_at;
 
 // Where the expression written for a name begins, or that none is.
-#[derive(Drop)]
+#[derive(Clone, Copy)]
 pub enum Writing {
     Written(usize),
     Unwritten,

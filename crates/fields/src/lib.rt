@@ -1,4 +1,6 @@
 // Paper 01, "A field is a one-byte tag, a two-byte length, and that many bytes": the fields of a file, read where they stand by a cursor.
+#![tactic(auto)]
+
 mod payload;
 pub mod substitutions;
 
@@ -7,7 +9,7 @@ ghost use Rattle.fields.specs.Cursor.{step_at, stays, goes, is_cut, is_end};
 
 // A field's number from 0, and where it begins: at position number + offset. So no cursor has a number past its position, and the number of the
 // field after one that is in the file is no larger than a position.
-#[derive(Drop)]
+#[derive(Clone, Copy)]
 pub struct Cursor {
     pub number: usize,
     pub offset: usize,
@@ -15,7 +17,7 @@ pub struct Cursor {
 
 // What stands at a cursor: a field's parts, names and counts by value, lists and expressions by position in the file; or bytes that are
 // no field; or the end.
-#[derive(Drop)]
+#[derive(Clone, Copy)]
 pub enum Parts {
     // its name
     Module(u16),
@@ -39,7 +41,7 @@ pub enum Parts {
 }
 
 // What was read, the field's number, and the cursor to go on with. The cursor stays where the bytes of a field are not there.
-#[derive(Drop)]
+#[derive(Clone, Copy)]
 pub struct FieldStep {
     pub parts: Parts,
     pub number: usize,

@@ -3,7 +3,7 @@ ghost use Rattle.std.specs.Prelude.{◌≡◌, ◌≤◌, length};
 ghost use Rattle.fields.specs.Substitution.{substitution_at, substitution_fits, substitutions_fit};
 
 // The declared name; where its expression begins, and its length. The next substitution begins after that.
-#[derive(Drop)]
+#[derive(Clone, Copy)]
 pub struct Substitution {
     pub name: u16,
     pub start: usize,

@@ -11,7 +11,7 @@ use crate::probing::{clashes, mask_of, weighs, with_bit};
 use limits::Limits;
 
 // "A card becomes 16 bytes": what they hold.
-#[derive(Drop)]
+#[derive(Clone, Copy)]
 pub struct Card {
     pub params: u8,
     pub base: u8,

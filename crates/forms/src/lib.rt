@@ -1,5 +1,7 @@
 // Level forms: the level of an expression as a function of its parameters' levels, in one number: a base and a label for each of sixteen
 // parameters. What they mean is said in specs/.
+#![tactic(auto)]
+
 pub mod card;
 pub mod levels;
 mod probing;
@@ -77,7 +79,7 @@ pub fn add_param(form: u64, l: u8, i: usize) -> u64
 }
 
 // A form, and the labels that are left.
-#[derive(Drop)]
+#[derive(Clone, Copy)]
 pub struct Led {
     pub form: u64,
     pub labels: u64,

@@ -1,5 +1,7 @@
 // Causes 4, 5, 7, 8, 9, 10 and 11 of an INSTANCE field, in their order, the names of its substitutions noted. specs/Sites.antt and
 // specs/Causes.antt say what by position and over the store; specs/Names.antt what that is by the rules.
+#![tactic(auto)]
+
 pub mod clashes;
 pub mod implied;
 pub mod limits_kept;
@@ -26,7 +28,7 @@ use written::{repeated_name, undeclared_name};
 
 // An INSTANCE field: its name or 0, how many parameters it has, the name of the module instanced, how many substitutions are written and from
 // where on.
-#[derive(Drop)]
+#[derive(Clone, Copy)]
 pub struct Instance {
     pub name: u16,
     pub params: u8,
@@ -37,7 +39,7 @@ pub struct Instance {
 
 // An INSTANCE field in its place: its parameters, how many substitutions it writes and from where on, the number of the module instanced
 // (that of the open module if it is not ended earlier), and how many modules are ended.
-#[derive(Drop)]
+#[derive(Clone, Copy)]
 pub struct Site {
     pub params: u8,
     pub count: u8,

@@ -12,7 +12,7 @@ use resolve::walk::look_at;
 use store::{Lent, Store};
 
 // Whether a name is unknown in some expression, and whether an argument count is wrong.
-#[derive(Drop)]
+#[derive(Clone, Copy)]
 pub struct Flags {
     pub unknown: bool,
     pub miscounted: bool,

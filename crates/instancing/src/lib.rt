@@ -1,4 +1,6 @@
 // INSTANCE: the definitions that it brings, and what is kept of the field.
+#![tactic(auto)]
+
 ghost use Rattle.std.specs.Prelude.{◌≡◌, ◌+◌, ◌-◌, ◌*◌, ◌%◌, ◌≤◌, ◌<◌, get_or};
 ghost use Rattle.limits.specs.Limits.{max_arity, max_definitions, max_modules};
 ghost use Rattle.limits.specs.Sizes.{code_count, context_length, max_fields};
@@ -15,7 +17,7 @@ use store::writing::{push_both, push_context, push_order, put_row};
 use store::{Facts, Store};
 
 // What all that an instance brings has from it: the module that it stands in, its parameter count, its name or 0, its field + 1.
-#[derive(Drop)]
+#[derive(Clone, Copy)]
 pub struct Inherited {
     pub module: usize,
     pub params: u16,

@@ -25,7 +25,7 @@ use store::reading::{context_at, fact_at, head_at, name_at};
 use store::{Lent, Store};
 
 // What was seen among the levels of substitutes: a 4, one that is not lawful, a 2, a 3.
-#[derive(Drop)]
+#[derive(Clone, Copy)]
 pub struct Seen {
     pub incorrect: bool,
     pub unlawful: bool,
@@ -34,7 +34,7 @@ pub struct Seen {
 }
 
 // What the walk over the declarations of the module instanced inherits: where the field stands, the module's number, whether it is constant.
-#[derive(Drop)]
+#[derive(Clone, Copy)]
 pub struct Walk {
     pub site: Site,
     pub q: usize,

@@ -1,4 +1,6 @@
 // INSTANCE: the field whole. All its causes are judged before anything is added.
+#![tactic(auto)]
+
 pub mod adding;
 pub mod constancy;
 pub mod lawful;

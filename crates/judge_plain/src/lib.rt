@@ -1,5 +1,7 @@
 // Fields without expressions: module, EXTENDS, CONSTANT, VARIABLE, end of module. Each is judged by the store, and
 // added if no cause holds. specs/Causes.antt says what is answered; proofs/ says what that means for the rules' state.
+#![tactic(auto)]
+
 pub mod declarations;
 pub mod extending;
 pub mod modules;
@@ -10,7 +12,7 @@ ghost use Rattle.judge_plain.specs.Causes.{early, refusal};
 use context::Counts;
 
 // Outside a module, directly after its field, later in it.
-#[derive(Drop)]
+#[derive(Clone, Copy)]
 pub enum Phase {
     Outside,
     Begun,
@@ -18,7 +20,7 @@ pub enum Phase {
 }
 
 // The first cause of a field, 0 if none holds; the phase and the counts after it.
-#[derive(Drop)]
+#[derive(Clone, Copy)]
 pub struct Judged {
     pub cause: u8,
     pub phase: Phase,
@@ -26,7 +28,7 @@ pub struct Judged {
 }
 
 // The names that an EXTENDS field lists: so many from a position of the file on.
-#[derive(Drop)]
+#[derive(Clone, Copy)]
 pub struct NameList {
     pub at: usize,
     pub count: usize,

@@ -22,7 +22,7 @@ use store::{Lent, Store};
 use tokens::limit_at;
 
 // What a definition field says: its name, its parameter count, where its text stands and how long that is.
-#[derive(Drop)]
+#[derive(Clone, Copy)]
 pub struct Defines {
     pub name: u16,
     pub params: u8,

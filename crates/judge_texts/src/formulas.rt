@@ -18,7 +18,7 @@ use store::{Lent, Store};
 use tokens::{Limit, limit_at};
 
 // A formula: its field's tag, whether its level must be 0, and where it stands.
-#[derive(Drop)]
+#[derive(Clone, Copy)]
 pub struct Stated {
     pub tag: u8,
     pub strict: bool,

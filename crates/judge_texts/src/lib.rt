@@ -1,4 +1,6 @@
 // Fields with one expression: definition, ASSUME, THEOREM. Each is judged as the rules judge it, and added if no cause holds.
+#![tactic(auto)]
+
 pub mod definitions;
 pub mod formulas;
 
@@ -20,7 +22,7 @@ use store::{Lent, Store};
 
 // What a text comes to: the position after it; whether something in it is unknown (cause 9), or an argument count wrong (cause 10); its level
 // with parameters at 0; its form.
-#[derive(Drop)]
+#[derive(Clone, Copy)]
 pub struct Text {
     pub next: usize,
     pub unknown: bool,

@@ -1,6 +1,8 @@
 // The level form of a text, by one walk over its tokens where they stand in the file: it goes down with the label of the place, and adds each
 // node's level to one form. What the names of the text mean is given by tables (specs/Tables.antt): `refs` says what each name of the file was
 // resolved to, `numbers` which definition of the world a definition of the text's module is, `words` is the table of forms.
+#![tactic(auto)]
+
 pub mod names;
 pub mod steps;
 
@@ -22,7 +24,7 @@ use tokens::Token;
 
 // What arguments inherit: the levels of the bound variables around them, and of those in the last of them, 0 or 1 each, a bit for each, the
 // nearest lowest; the label of their place; and inside that the label of each.
-#[derive(Drop)]
+#[derive(Clone, Copy)]
 pub struct Under {
     pub around: u64,
     pub within: u64,
@@ -31,7 +33,7 @@ pub struct Under {
 }
 
 // A form and a position.
-#[derive(Drop)]
+#[derive(Clone, Copy)]
 pub struct Walked {
     pub form: u64,
     pub next: usize,

@@ -9,7 +9,7 @@ use rows::Rows;
 
 // Whether there is one, how many arguments follow and the labels that it gives them, the levels of the variables that are bound in the last of
 // them, the form with its own level added, and the position after it.
-#[derive(Drop)]
+#[derive(Clone, Copy)]
 pub struct Step {
     pub ok: bool,
     pub count: u8,

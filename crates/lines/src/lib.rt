@@ -1,4 +1,6 @@
 // The listing as text in lent memory.
+#![tactic(auto)]
+
 mod digits;
 mod listing;
 mod numbers;

@@ -1,4 +1,6 @@
 // A file's listing, as the listing program prints it.
+#![tactic(auto)]
+
 ghost use Rattle.std.specs.Prelude.{false, ◌≡◌, ◌≤◌, length};
 ghost use Rattle.limits.specs.Limits.{file_bytes};
 ghost use Rattle.levels.specs.Tables.{table_words};

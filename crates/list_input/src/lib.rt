@@ -1,4 +1,6 @@
 // What the listing program does.
+#![tactic(auto)]
+
 ghost use Rattle.std.specs.Prelude.{◌≡◌, ◌+◌, ◌≤◌, length, take};
 ghost use Rattle.limits.specs.Limits.{file_bytes};
 ghost use Rattle.rules.specs.Listing.{listing_of};
@@ -9,7 +11,7 @@ use lines::Room;
 use list_file::Input;
 
 // How many bytes were read, and how many there were to print.
-#[derive(Drop)]
+#[derive(Clone, Copy)]
 pub struct Listed {
     pub read: usize,
     pub printed: usize,

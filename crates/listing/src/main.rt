@@ -1,4 +1,6 @@
 // Reads a file from standard input and prints its listing.
+#![tactic(auto)]
+
 use lines::Room;
 use list_file::Input;
 use list_input::list_input;

@@ -1,4 +1,6 @@
 // The listing program, run on a file as large as one may be, with as many definitions as there may be.
+#![tactic(auto)]
+
 use lines::Room;
 use list_file::Input;
 use list_input::list_input;

@@ -1,4 +1,6 @@
 // The listing program, run on an input over the limit of a file.
+#![tactic(auto)]
+
 use lines::Room;
 use list_file::Input;
 use list_input::list_input;

@@ -1,4 +1,6 @@
 // The queries of paper 01 as operations: "Each call checks the file afresh and fills the lent card memory."
+#![tactic(auto)]
+
 pub mod expansion;
 pub mod replies;
 
@@ -26,7 +28,7 @@ use store::{Lent, Store};
 
 // What is asked of a file: the level of an expression at the end of the module of that name, the expression and its parameters' levels
 // standing beside; whether two definitions are alike; where a definition's body stands. "A definition is given by its number, a module by its name."
-#[derive(Drop)]
+#[derive(Clone, Copy)]
 pub enum Question {
     Level(u16),
     Alike(u32, u32),
@@ -34,7 +36,7 @@ pub enum Question {
 }
 
 // The reply to a question: a level; whether the two are alike; the start of the body and its length; or a refusal's number and place.
-#[derive(Drop)]
+#[derive(Clone, Copy)]
 pub enum Replied {
     Levelled(u8),
     Compared(bool),
@@ -43,13 +45,13 @@ pub enum Replied {
 }
 
 // The replies of each query by itself; that of the level query is asking's.
-#[derive(Drop)]
+#[derive(Clone, Copy)]
 pub enum AlikeReply {
     Alike(bool),
     Refused(u8, usize),
 }
 
-#[derive(Drop)]
+#[derive(Clone, Copy)]
 pub enum BodyReply {
     Body(usize, usize),
     Refused(u8, usize),

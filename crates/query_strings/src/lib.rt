@@ -1,5 +1,7 @@
 // A query's expression, "of any length", read once: whether it keeps the limits, whether its names are known and rightly counted, and its string of
 // symbols.
+#![tactic(auto)]
+
 pub mod steps;
 pub mod walk;
 
@@ -23,7 +25,7 @@ use tables::{Long, Tables};
 
 // Of an expression: whether it keeps the limits; and if it does, whether its names are known and rightly counted, and the position after it;
 // whether there was room for its string, and the string's length.
-#[derive(Drop)]
+#[derive(Clone, Copy)]
 pub struct Queried {
     pub kept: bool,
     pub looked: Looked,
@@ -32,7 +34,7 @@ pub struct Queried {
 }
 
 // What a token was resolved to, and what is left to be written of its arguments.
-#[derive(Drop)]
+#[derive(Clone, Copy)]
 pub struct TokenHead {
     pub look: Look,
     pub rest: Rest,
@@ -40,7 +42,7 @@ pub struct TokenHead {
 
 // Of an expression: whether it keeps the limits; and if it does, whether its names are known and rightly counted, the position after it and the
 // position after its string.
-#[derive(Drop)]
+#[derive(Clone, Copy)]
 pub struct Read {
     pub kept: bool,
     pub looked: Looked,

@@ -1,4 +1,6 @@
 // What the archive hands to C and Rust: a slice is a pointer and a length.
+#![tactic(auto)]
+
 ghost use Rattle.std.specs.Prelude.{cond, ◌≡◌, ◌+◌, ◌*◌, ◌≤◌};
 ghost use Rattle.limits.specs.Limits.{expansion_bytes, file_bytes, max_definitions};
 ghost use Rattle.asking.specs.Reply as levels;

@@ -2,6 +2,8 @@
 // from left to right and written to other memory; where a call stands the template is read instead, and where the template has a parameter,
 // the argument in the string. What is underway is kept in a table of the calls, so nothing is copied twice and no recursion follows the
 // nesting. As many runs are made as the table needs to have had room for all calls.
+#![tactic(auto)]
+
 ghost use Rattle.std.specs.Prelude.{◌≡◌, ◌^◌, ◌<◌, ◌≤◌, get_or, length, take};
 ghost use Rattle.rows.specs.Rows.{arity_column};
 ghost use Rattle.rewriting.specs.Rewritten.{Rewritten};
@@ -18,7 +20,7 @@ use streaming::{Now, Stepped};
 use strings::Filled;
 
 // What a run comes to; where it is not `told`, nothing is known.
-#[derive(Drop)]
+#[derive(Clone, Copy)]
 pub struct RunResult {
     pub told: bool,
     pub fits: bool,
@@ -152,7 +154,7 @@ fn replace_noted(
 }
 
 // What a round comes to: how many calls of n there were to replace, as many as the table has room for.
-#[derive(Drop)]
+#[derive(Clone, Copy)]
 pub struct Round {
     pub calls: usize,
     pub told: bool,
@@ -226,7 +228,7 @@ fn first_round(
 }
 
 // What a round leaves: a string in which calls may be left, or the answer.
-#[derive(Drop)]
+#[derive(Clone, Copy)]
 pub struct AfterRound {
     pub more: bool,
     pub fits: bool,

@@ -1,20 +1,22 @@
 // Names looked up where they stand: a walk over an expression in the file, or in a query's bytes, that looks every name up in the context of
 // a module, notes in a table beside the bytes what it means, and answers causes 9 and 10. specs/ says what by position; proofs/ that it is
 // what the rules say.
+#![tactic(auto)]
+
 pub mod lookup;
 pub mod steps;
 pub mod walk;
 
 // What a name means, as a number, and how many arguments it takes. The number is a definition's, or 256 more than a declaration's; no
 // number, if the name is unknown.
-#[derive(Drop)]
+#[derive(Clone, Copy)]
 pub enum Look {
     Ref(u16, u16),
     NoRef,
 }
 
 // What a walk asks in: the module whose context it is, how many parameters are known, and how many bound variables.
-#[derive(Drop)]
+#[derive(Clone, Copy)]
 pub struct Ask {
     pub module: usize,
     pub params: usize,
@@ -23,7 +25,7 @@ pub struct Ask {
 
 // The position after an expression; whether a name, parameter or bound index in it is unknown (cause 9); whether an argument count is wrong
 // (cause 10).
-#[derive(Drop)]
+#[derive(Clone, Copy)]
 pub struct Looked {
     pub next: usize,
     pub unknown: bool,

@@ -11,7 +11,7 @@ use crate::{Ask, Looked};
 use store::{Lent, Store};
 
 // The arguments that are left of a token: from where on, how many, and how many bound variables are known in the last of them.
-#[derive(Drop)]
+#[derive(Clone, Copy)]
 struct Args {
     at: usize,
     left: u8,

@@ -1,5 +1,7 @@
 // The primitive of an expansion: every call of one number in a string replaced by one template, the arguments put in. The string goes to the
 // right end of the memory; what has been rewritten grows from the left.
+#![tactic(auto)]
+
 ghost use Rattle.std.specs.Prelude.{◌≡◌, true, ◌^◌, ◌<◌, ◌≤◌, min, eqb, length};
 ghost use Rattle.rows.specs.Rows.{arity_column};
 ghost use Rattle.symbols.specs.Symbol.{calls};
@@ -13,7 +15,7 @@ ghost use Rattle.rewriting.specs.Rewritten.{Rewritten};
 use symbols::Shape;
 
 // A text filled in, and where the arguments end that were put in.
-#[derive(Drop)]
+#[derive(Clone, Copy)]
 struct Part {
     fits: bool,
     len: usize,
@@ -21,7 +23,7 @@ struct Part {
 }
 
 // Where a turn leaves what is done and where the rest begins.
-#[derive(Drop)]
+#[derive(Clone, Copy)]
 struct Moved {
     fits: bool,
     q: usize,

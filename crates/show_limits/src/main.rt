@@ -1,4 +1,6 @@
 // Prints the limits of paper 01 as the checker was built with them.
+#![tactic(auto)]
+
 fn show(name: &[u8], value: usize) {
     io::write_all(libc::STDOUT_FILENO, name);
     io::print_decimal(libc::STDOUT_FILENO, value as u64);

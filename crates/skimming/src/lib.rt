@@ -1,4 +1,6 @@
 // Limits and names of a query's expression, by one walk that looks for no level.
+#![tactic(auto)]
+
 ghost use Rattle.std.specs.Prelude.{◌≡◌, false, ℕ, ◌+◌, ◌-◌, ◌<◌, ◌≤◌, leb};
 ghost use Rattle.limits.specs.Limits.{max_arity};
 ghost use Rattle.rows.specs.Numbers.{row_column, row_number};
@@ -21,7 +23,7 @@ use tables::token::{arguments_in, token_in};
 use tokens::Token;
 
 // Where the codes of a context stand among the contexts of the store, and how many parameters are known.
-#[derive(Drop)]
+#[derive(Clone, Copy)]
 pub struct ContextAt {
     pub from: usize,
     pub end: usize,
@@ -29,7 +31,7 @@ pub struct ContextAt {
 }
 
 // Where an expression stands, how deep it may nest, and how many variables are bound around it.
-#[derive(Drop)]
+#[derive(Clone, Copy)]
 pub struct Spot {
     pub at: usize,
     pub nest: usize,
@@ -37,7 +39,7 @@ pub struct Spot {
 }
 
 // Where arguments stand, how many they are and how deep they may nest, and how many variables are bound around them and in the last of them.
-#[derive(Drop)]
+#[derive(Clone, Copy)]
 pub struct Args {
     pub at: usize,
     pub count: u8,
@@ -47,7 +49,7 @@ pub struct Args {
 }
 
 // Whether an expression keeps the limits; if it does, its causes 9 and 10 and the position after it.
-#[derive(Drop)]
+#[derive(Clone, Copy)]
 pub struct Skimmed {
     pub kept: bool,
     pub looked: Looked,
@@ -55,7 +57,7 @@ pub struct Skimmed {
 
 // What a token says where it stands: whether it keeps the limits, how many arguments follow, how many variables are bound in the last of them,
 // and what is known after it.
-#[derive(Drop)]
+#[derive(Clone, Copy)]
 pub struct Step {
     pub kept: bool,
     pub count: u8,

@@ -1,4 +1,6 @@
 // From a text of the file to its string of symbols: what each name was resolved to, and how the text is brought, are given by tables.
+#![tactic(auto)]
+
 pub mod heads;
 pub mod put;
 pub mod walk;
@@ -15,7 +17,7 @@ use store::lending::names_in;
 use store::{Lent, Store};
 
 // How a text is brought: how many instances have been entered, and how many parameters they have.
-#[derive(Drop)]
+#[derive(Clone, Copy)]
 pub struct ChainDepth {
     pub level: usize,
     pub outer: usize,
@@ -23,7 +25,7 @@ pub struct ChainDepth {
 
 // What is left to be written of a token's arguments: from which position on; all, or those whose bits are set; and whether the last is
 // bracketed.
-#[derive(Drop)]
+#[derive(Clone, Copy)]
 pub struct Rest {
     pub to: usize,
     pub all: bool,
@@ -32,14 +34,14 @@ pub struct Rest {
 }
 
 // Where an expression ends, and where its string does.
-#[derive(Drop)]
+#[derive(Clone, Copy)]
 pub struct Ends {
     pub next: usize,
     pub to: usize,
 }
 
 // Whether there was room for a string, and its length.
-#[derive(Drop)]
+#[derive(Clone, Copy)]
 pub struct Spelled {
     pub fits: bool,
     pub len: usize,

@@ -1,4 +1,6 @@
 // What the fields read so far have added, in one lent array of 16-bit numbers. Nobody else knows where a region stands: contracts speak of `held`.
+#![tactic(auto)]
+
 pub mod lending;
 pub mod reading;
 pub mod writing;
@@ -6,7 +8,7 @@ pub mod writing;
 use limits::Limits;
 
 // What is kept of a code beside its name: specs/Store.antt has the table.
-#[derive(Drop)]
+#[derive(Clone, Copy)]
 pub struct Facts {
     pub kind: u16,
     pub first: u16,

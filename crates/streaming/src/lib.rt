@@ -1,4 +1,6 @@
 // One step of a run: a symbol written, a call entered or left, an argument entered or left. What is underway is kept in the table of calls.
+#![tactic(auto)]
+
 pub mod here;
 pub mod inside;
 
@@ -7,7 +9,7 @@ ghost use Rattle.std.specs.Prelude.{◌≡◌, ◌-◌, ltb};
 // Where a run stands: so many bytes written; in the string at p, in a part that ends at e, so many calls standing before p; the call
 // entered last, its number plus one; whether its template is being read, at tp; how many brackets are open that templates opened, and how
 // many that the string did.
-#[derive(Drop)]
+#[derive(Clone, Copy)]
 pub struct Now {
     pub q: usize,
     pub p: usize,
@@ -32,7 +34,7 @@ impl Now {
 }
 
 // What a step comes to: it goes on; all is written, so many bytes; there is no room for a symbol, or no two bytes for an index; it cannot be told.
-#[derive(Drop)]
+#[derive(Clone, Copy)]
 pub enum Stepped {
     On(Now),
     Finished(usize),
@@ -41,7 +43,7 @@ pub enum Stepped {
 }
 
 // How many brackets are open then, if that can be told.
-#[derive(Drop)]
+#[derive(Clone, Copy)]
 pub struct Depth {
     pub ok: bool,
     pub count: usize,

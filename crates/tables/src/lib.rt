@@ -1,6 +1,8 @@
 // What makes a long walk quick: tokens read with the column of rows lent, and names found in two tables by name, one after the other in lent bytes.
 // No bytes serve too: then there is a search, which costs less where the walk is short. Nobody else knows where a table stands: contracts speak
 // of `tables_in`.
+#![tactic(auto)]
+
 pub mod brought;
 pub mod names;
 pub mod token;

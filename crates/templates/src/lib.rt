@@ -1,4 +1,6 @@
 // The shapes of all definitions, and the template of one: the string of its text in which no stand-in is left.
+#![tactic(auto)]
+
 pub mod alike;
 pub mod making;
 pub mod shaping;

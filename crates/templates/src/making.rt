@@ -62,7 +62,7 @@ fn highest_number(s: &[u8], n: usize) -> usize
 }
 
 // Whether there was room, the string's length, and one more than the highest number that it calls.
-#[derive(Drop)]
+#[derive(Clone, Copy)]
 pub struct Unfolded {
     pub fits: bool,
     pub len: usize,

@@ -1,24 +1,26 @@
 // What a caller of the archive reads off the number that is handed over.
+#![tactic(auto)]
+
 ghost use Rattle.std.specs.Prelude.{◌≡◌};
 ghost use Rattle.demands.specs.Packed.{unpacked, unpacked_span, unpacked_truth};
 ghost use Rattle.unpacking.specs.Outcomes.{number_outcome, span_outcome, truth_outcome};
 
 // A number of definitions, a level or a length; or a refusal's number and place.
-#[derive(Drop)]
+#[derive(Clone, Copy)]
 pub enum Number {
     Result(u32),
     Refused(u32, u32),
 }
 
 // Whether two definitions are alike; or a refusal's number and place.
-#[derive(Drop)]
+#[derive(Clone, Copy)]
 pub enum Truth {
     Result(bool),
     Refused(u32, u32),
 }
 
 // The start of a part of the file and its length; or a refusal's number and place.
-#[derive(Drop)]
+#[derive(Clone, Copy)]
 pub enum Span {
     Result(u64, u64),
     Refused(u64, u64),

@@ -1,5 +1,7 @@
 // Prints the listings of many files: standard input holds them one after another, each a length of three bytes, most significant first, and
 // that many bytes. Ends where the input does, or at a length that is more than one over the limit of a file.
+#![tactic(auto)]
+
 ghost use Rattle.std.specs.Prelude.{◌≤◌};
 
 use libc::STDIN_FILENO;

@@ -139,7 +139,7 @@ module _ (s : State) (rs : List Row) (w : Worlds s rs) (n p m : ℕ) (ss : List 
       let j = place g (source s m).definitions in
       ap (λ (k : ℕ). definition_in (meanings s ++ es) (k + j)) (sym (length-meanings s))
       ∙ get_or-append-add (meanings s) es j absent
-      ∙ ListN.get_d_map (λ (d : Added). d.meaning) brings-all j no_definition
+      ∙ ListN.get_or-map (λ (d : Added). d.meaning) brings-all j no_definition
       ∙ ap (λ (d : Added). d.meaning) (get_d_map (brought_one s n p (source s m) ss) (source s m).definitions j no_definition 0 i)
       ∙ ap (λ (h : ℕ). brought p (substitute s p (source s m) ss) h) (get_d-place g (source s m).definitions 0 i)
 

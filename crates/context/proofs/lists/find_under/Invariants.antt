@@ -1,0 +1,14 @@
+use Prim.Native.Nat.{◌-◌}
+use mathlib.Core.Path.{◌≡◌, refl}
+use Rattle.context.proofs.Search.{under-end, under-hit, under_next}
+use Rattle.context.specs.Lookup.{code_under}
+use Rattle.theory.specs.Lists.{numbers_from}
+use Rattle.store.specs.Store.{held}
+use borrow.Author.Rules.{rules}
+use Rattle.context.proofs.lists.find_under.Given as goal
+
+abbrev pub invariant-loop-i : goal.invariant-loop-i
+invariant-loop-i l = code_under (held l.store).names (held l.store).facts l.instance l.name (numbers_from l.i (l.end - l.i)) ≡ code_under (held l.store).names (held l.store).facts l.instance l.name (numbers_from l.from (l.end - l.from))
+
+abbrev pub decreases-loop-i : goal.decreases-loop-i
+decreases-loop-i l = l.end - l.i

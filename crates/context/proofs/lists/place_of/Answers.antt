@@ -1,0 +1,19 @@
+use Rattle.store.specs.Store.{held}
+use Prim.Native.Nat.{◌+◌, ◌-◌}
+use mathlib.Core.Path.{◌≡◌, refl}
+use Rattle.context.proofs.Search.{place_end, place-hit, place-next}
+use Rattle.context.specs.Parts.{part, place_of}
+use borrow.Author.Rules.{rules}
+use Rattle.context.proofs.lists.place_of.Goals as goal
+
+pub loop-i-init : goal.loop-i-init
+loop-i-init c = refl
+
+pub returns-then-x-head_at : goal.returns-then-x-head_at
+returns-then-x-head_at c = search place-hit
+
+pub loop-i-preserved : goal.loop-i-preserved
+loop-i-preserved c = search place-next
+
+pub returns : goal.returns
+returns c = search place_end

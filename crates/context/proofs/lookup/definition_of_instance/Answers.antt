@@ -1,0 +1,6 @@
+use Rattle.context.proofs.Answers.{between}
+use borrow.Author.Rules.{rules}
+use Rattle.context.proofs.lookup.definition_of_instance.Goals as goal
+
+pub returns : goal.returns
+returns c = search between

@@ -1,0 +1,6 @@
+use Rattle.context.proofs.Answers.{entry_found}
+use borrow.Author.Rules.{rules}
+use Rattle.context.proofs.lookup.find_entry.Goals as goal
+
+pub returns : goal.returns
+returns c = search entry_found

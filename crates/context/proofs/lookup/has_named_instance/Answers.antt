@@ -1,0 +1,6 @@
+use Rattle.context.proofs.Answers.{instance-there}
+use borrow.Author.Rules.{rules}
+use Rattle.context.proofs.lookup.has_named_instance.Goals as goal
+
+pub returns : goal.returns
+returns c = search instance-there

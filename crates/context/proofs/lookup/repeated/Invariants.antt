@@ -1,0 +1,15 @@
+use Prim.Native.Nat.{◌-◌}
+use mathlib.Core.Path.{◌≡◌, refl}
+use native.Mathlib.Omega.{arith}
+use Rattle.context.proofs.Repeats.{again, never-again, not-again}
+use Rattle.context.specs.Lookup.{repeated_in}
+use Rattle.context.specs.Parts.{part}
+use Rattle.store.specs.Store.{held}
+use borrow.Author.Rules.{rules}
+use Rattle.context.proofs.lookup.repeated.Given as goal
+
+abbrev pub invariant-loop-i : goal.invariant-loop-i
+invariant-loop-i l = repeated_in (held l.store).names (part (held l.store).contexts l.i (l.end - l.i)) ≡ repeated_in (held l.store).names (part (held l.store).contexts l.from (l.end - l.from))
+
+abbrev pub decreases-loop-i : goal.decreases-loop-i
+decreases-loop-i l = l.end - l.i

@@ -1,0 +1,10 @@
+use Rattle.entering.proofs.Entering.{Entering, entering-start, entering-turn, entering-whole}
+use Rattle.store.specs.Store.{held}
+use borrow.Author.Rules.{rules}
+use Rattle.entering.proofs.numbering.enter_numbers.Given as goal
+
+abbrev pub invariant-loop-i : goal.invariant-loop-i
+invariant-loop-i l = Entering (held l.store).orders l.base l.initial.i l.first l.numbers l.initial.next l.next l.i
+
+abbrev pub decreases-loop-i : goal.decreases-loop-i
+decreases-loop-i l = l.i

@@ -1,0 +1,13 @@
+use Rattle.fields.proofs.Payloads.{name-end, name-next, name-zero}
+use mathlib.Core.Path.{◌≡◌, refl}
+use Prim.Native.Nat.{◌+◌, ◌*◌, ◌≤◌}
+use lib.ListN.{length}
+use Rattle.fields.specs.Payload.{all_named}
+use borrow.Author.Rules.{rules}
+use Rattle.fields.proofs.payload.all_named.Given as goal
+
+abbrev pub invariant-loop-left : goal.invariant-loop-left
+invariant-loop-left l = (l.i + 2 * l.left ≤ length l.p) × (all_named l.left l.p l.i ≡ all_named l.k l.p 0)
+
+abbrev pub decreases-loop-left : goal.decreases-loop-left
+decreases-loop-left l = l.left

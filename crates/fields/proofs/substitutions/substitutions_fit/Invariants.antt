@@ -1,0 +1,13 @@
+use Rattle.fields.proofs.Substituting.{in-fits, in-room, substitution-bad, substitution-end, substitution-next}
+use mathlib.Core.Path.{◌≡◌, refl}
+use Prim.Native.Nat.{◌≤◌}
+use lib.ListN.{length}
+use Rattle.fields.specs.Substitution.{substitutions_fit}
+use borrow.Author.Rules.{rules}
+use Rattle.fields.proofs.substitutions.substitutions_fit.Given as goal
+
+abbrev pub invariant-loop-left : goal.invariant-loop-left
+invariant-loop-left l = (l.at ≤ length l.p) × (substitutions_fit l.left l.p l.at ≡ substitutions_fit l.count l.p l.from)
+
+abbrev pub decreases-loop-left : goal.decreases-loop-left
+decreases-loop-left l = l.left

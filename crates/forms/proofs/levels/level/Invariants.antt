@@ -1,0 +1,11 @@
+use Prim.Native.Nat.{◌-◌}
+use lib.ListN.{length}
+use Rattle.forms.proofs.Reading.{Reads, reads-start, reads-turn, reads_end}
+use borrow.Author.Rules.{rules}
+use Rattle.forms.proofs.levels.level.Given as goal
+
+abbrev pub invariant-loop-i : goal.invariant-loop-i
+invariant-loop-i l = Reads l.form l.v l.b l.left l.i
+
+abbrev pub decreases-loop-i : goal.decreases-loop-i
+decreases-loop-i l = length l.v - l.i

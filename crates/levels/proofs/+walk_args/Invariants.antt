@@ -1,0 +1,17 @@
+use Prim.Native.Nat.{◌+◌, ◌*◌}
+use Rattle.levels.proofs.Walking.{Going, inherit, going_end, going-fits, going-inside, going-leaf, going-low, going_on, going_start, stop-limit, stop-token}
+use Rattle.levels.specs.Tables.{names_of}
+use borrow.Author.Rules.{rules}
+use Prim.Native.Nat.{ℕ, ◌<◌}
+use Rattle.levels.proofs.+walk_args.Given as goal
+
+abbrev pub decreases-walk_args : goal.decreases-walk_args
+decreases-walk_args l = l.nesting
+
+abbrev pub invariant-loop-k : goal.invariant-loop-k
+invariant-loop-k l =
+    Going (names_of l.refs l.numbers l.words l.outer) l.s l.at l.count l.nesting (inherit l.initial.around l.initial.within l.initial.label l.initial.labels) l.before l.form l.pos l.k l.nest l.around l.within l.label l.labels
+
+abbrev pub decreases-loop-k : goal.decreases-loop-k
+decreases-loop-k l =
+    l.nest * 256 + l.k

@@ -1,0 +1,6 @@
+use Rattle.tokens.proofs.Places.{past}
+use borrow.Author.Rules.{rules}
+use Rattle.levels.proofs.names.form_at.Goals as goal
+
+pub returns-else-g-words : goal.returns-else-g-words
+returns-else-g-words c = search past

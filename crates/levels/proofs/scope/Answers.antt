@@ -1,0 +1,9 @@
+use Rattle.tokens.proofs.Places.{tests}
+use borrow.Author.Rules.{rules}
+use Rattle.levels.proofs.scope.Goals as goal
+
+pub returns-then-k-eq1 : goal.returns-then-k-eq1
+returns-then-k-eq1 c = search (tests, rules)
+
+pub returns-else-k-eq1 : goal.returns-else-k-eq1
+returns-else-k-eq1 c = search (tests, rules)

@@ -1,0 +1,6 @@
+use Rattle.resolve.proofs.Looking.{definition}
+use borrow.Author.Rules.{rules}
+use Rattle.resolve.proofs.lookup.of_definition.Goals as goal
+
+pub returns : goal.returns
+returns c = search definition

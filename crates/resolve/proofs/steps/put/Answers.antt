@@ -1,0 +1,6 @@
+use Rattle.resolve.proofs.Walking.{out-of-table}
+use borrow.Author.Rules.{rules}
+use Rattle.resolve.proofs.steps.put.Goals as goal
+
+pub returns-then-refs-at : goal.returns-then-refs-at
+returns-then-refs-at c = search out-of-table

@@ -1,0 +1,9 @@
+use Rattle.strings.proofs.Cases.{index-high, index-low}
+use borrow.Author.Rules.{rules}
+use Rattle.strings.proofs.index_bit.Goals as goal
+
+pub returns-then-j : goal.returns-then-j
+returns-then-j c = search index-low
+
+pub returns-else-j : goal.returns-else-j
+returns-else-j c = search index-high

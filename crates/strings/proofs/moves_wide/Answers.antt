@@ -1,0 +1,6 @@
+use Rattle.strings.proofs.Cases.{wide-var}
+use borrow.Author.Rules.{rules}
+use Rattle.strings.proofs.moves_wide.Goals as goal
+
+pub returns-in-Var : goal.returns-in-Var
+returns-in-Var c = search wide-var

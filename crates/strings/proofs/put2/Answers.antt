@@ -1,0 +1,6 @@
+use Rattle.strings.proofs.Cases.{two-stores}
+use borrow.Author.Rules.{rules}
+use Rattle.strings.proofs.put2.Goals as goal
+
+pub returns : goal.returns
+returns c = search two-stores

@@ -1,0 +1,14 @@
+use Prim.Native.Nat.{◌+◌, ◌-◌, ◌≤◌, min}
+use mathlib.Core.Path.{◌≡◌}
+use lib.ListN.{length}
+use Rattle.symbols.specs.Symbol.{strip}
+use Rattle.strings.specs.Read.{string_at}
+use Rattle.strings.proofs.Turns.{strip-within, stripped-end, stripped-turn}
+use borrow.Author.Rules.{rules}
+use Rattle.strings.proofs.stripped_length.Goals as goal
+
+pub loop-i-preserved : goal.loop-i-preserved
+loop-i-preserved c = (search rules, search rules, search strip-within, search stripped-turn)
+
+pub returns : goal.returns
+returns c = search stripped-end

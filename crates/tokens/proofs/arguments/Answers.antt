@@ -1,0 +1,5 @@
+use borrow.Author.Rules.{rules}
+use Rattle.tokens.proofs.arguments.Goals as goal
+
+pub returns-in-BuiltIn : goal.returns-in-BuiltIn
+returns-in-BuiltIn c = cc

@@ -1,0 +1,6 @@
+use Rattle.tokens.proofs.Shaping.{instance-shows}
+use borrow.Author.Rules.{rules}
+use Rattle.tokens.proofs.instance_shape.Goals as goal
+
+pub returns : goal.returns
+returns c = search instance-shows

@@ -1,0 +1,5 @@
+use Rattle.tokens.proofs.Shaping.{name-shows}
+use Rattle.tokens.proofs.name_shape.Goals as goal
+
+pub returns : goal.returns
+returns c = search name-shows
