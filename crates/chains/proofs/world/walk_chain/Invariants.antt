@@ -1,0 +1,12 @@
+use mathlib.Core.Path.{◌∙◌, sym}
+use Rattle.chains.proofs.Along.{Along, along-start, along-turn, along-whole, step_less}
+use Rattle.store.specs.Store.{held}
+use borrow.Author.Rules.{rules}
+use Rattle.chains.proofs.world.walk_chain.Given as goal
+
+abbrev pub invariant-loop-numbers : goal.invariant-loop-numbers
+invariant-loop-numbers l =
+    Along l.file l.refs l.initial.inner (held l.store) (held l.store).declared l.n l.d l.numbers l.inner l.outer l.cur
+
+abbrev pub decreases-loop-numbers : goal.decreases-loop-numbers
+decreases-loop-numbers l = l.cur

@@ -1,0 +1,15 @@
+use mathlib.Core.Path.{◌≡◌, refl}
+use Prim.Native.Nat.{◌-◌}
+use Rattle.context.specs.Parts.{part}
+use Rattle.instance_names.specs.Sites.{unknown_among}
+use Rattle.instance_names.proofs.Turns.{known-end, known-hit, known_next}
+use Rattle.store.specs.Store.{held}
+use borrow.Author.Rules.{rules}
+use Rattle.instance_names.proofs.implied.unknown_among.Given as goal
+
+abbrev pub invariant-loop-i : goal.invariant-loop-i
+invariant-loop-i l =
+    unknown_among l.file (held l.store).names (held l.store).facts (held l.store).contexts (held l.store).heads l.x (part (held l.store).contexts l.i (l.end - l.i)) ≡ unknown_among l.file (held l.store).names (held l.store).facts (held l.store).contexts (held l.store).heads l.x (part (held l.store).contexts l.from (l.end - l.from))
+
+abbrev pub decreases-loop-i : goal.decreases-loop-i
+decreases-loop-i l = l.end - l.i

@@ -1,0 +1,15 @@
+use mathlib.Core.Path.{◌≡◌, refl}
+use Prim.Native.Nat.{◌-◌}
+use Rattle.context.specs.Parts.{part}
+use Rattle.instance_names.specs.Sites.{definitions_over}
+use Rattle.instance_names.proofs.Turns.{definitions-end, definitions-hit, definitions-next}
+use Rattle.store.specs.Store.{held}
+use borrow.Author.Rules.{rules}
+use Rattle.instance_names.proofs.limits_kept.definitions_over.Given as goal
+
+abbrev pub invariant-loop-i : goal.invariant-loop-i
+invariant-loop-i l =
+    definitions_over (held l.store).facts l.params (part (held l.store).orders l.i (l.end - l.i)) ≡ definitions_over (held l.store).facts l.params (part (held l.store).orders l.from (l.end - l.from))
+
+abbrev pub decreases-loop-i : goal.decreases-loop-i
+decreases-loop-i l = l.end - l.i

@@ -1,0 +1,9 @@
+use Rattle.judge_instance.proofs.ConstancyCases.{uneven-form, uneven-other}
+use borrow.Author.Rules.{rules}
+use Rattle.judge_instance.proofs.constancy.is_uneven.Goals as goal
+
+pub returns-then-d-lt-DEFINITIONS : goal.returns-then-d-lt-DEFINITIONS
+returns-then-d-lt-DEFINITIONS c = search uneven-form
+
+pub returns : goal.returns
+returns c = search uneven-other

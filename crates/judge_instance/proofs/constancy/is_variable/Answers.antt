@@ -1,0 +1,9 @@
+use Rattle.judge_instance.proofs.ConstancyCases.{variable-code, variable-other}
+use borrow.Author.Rules.{rules}
+use Rattle.judge_instance.proofs.constancy.is_variable.Goals as goal
+
+pub returns-then-is_declared : goal.returns-then-is_declared
+returns-then-is_declared c = search variable-code
+
+pub returns : goal.returns
+returns c = search variable-other

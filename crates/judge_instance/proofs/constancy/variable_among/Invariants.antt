@@ -1,0 +1,14 @@
+use Prim.Native.Nat.{◌-◌}
+use mathlib.Core.Path.{◌≡◌, refl}
+use Rattle.context.specs.Parts.{part}
+use Rattle.judge_instance.specs.Constancy.{variable_among}
+use Rattle.judge_instance.proofs.ConstancyCases.{variable-end, variable-hit, variable-next}
+use Rattle.store.specs.Store.{held}
+use borrow.Author.Rules.{rules}
+use Rattle.judge_instance.proofs.constancy.variable_among.Given as goal
+
+abbrev pub invariant-loop-i : goal.invariant-loop-i
+invariant-loop-i l = variable_among (held l.store).facts (part (held l.store).contexts l.i (l.end - l.i)) ≡ variable_among (held l.store).facts (part (held l.store).contexts l.from (l.end - l.from))
+
+abbrev pub decreases-loop-i : goal.decreases-loop-i
+decreases-loop-i l = l.end - l.i

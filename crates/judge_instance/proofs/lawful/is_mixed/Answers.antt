@@ -1,0 +1,9 @@
+use Rattle.judge_instance.proofs.LevelCases.{mixed-constant, mixed-other}
+use borrow.Author.Rules.{rules}
+use Rattle.judge_instance.proofs.lawful.is_mixed.Goals as goal
+
+pub returns-then-constant : goal.returns-then-constant
+returns-then-constant c = search (mixed-constant, mixed-other)
+
+pub returns : goal.returns
+returns c = search (mixed-constant, mixed-other)

@@ -1,0 +1,6 @@
+use Rattle.judge_instance.proofs.LevelCases.{later-own}
+use borrow.Author.Rules.{rules}
+use Rattle.judge_instance.proofs.lawful.later_cause.Goals as goal
+
+pub returns : goal.returns
+returns c = search later-own

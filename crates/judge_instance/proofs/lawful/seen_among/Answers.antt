@@ -1,0 +1,18 @@
+use Prim.Native.Nat.{◌-◌, ◌*◌}
+use Rattle.limits.specs.Sizes.{context_length}
+use Rattle.context.specs.Parts.{part}
+use Rattle.context.specs.Entries.{context_codes}
+use Rattle.entering.specs.Substitutes.{around}
+use Rattle.judge_instance.proofs.LevelCases.{SeenLeft, seen_end, seen_next, seen_start}
+use Rattle.store.specs.Store.{held}
+use borrow.Author.Rules.{rules}
+use Rattle.judge_instance.proofs.lawful.seen_among.Goals as goal
+
+pub loop-i-init : goal.loop-i-init
+loop-i-init c = search seen_start
+
+pub loop-i-preserved : goal.loop-i-preserved
+loop-i-preserved c = search seen_next
+
+pub returns : goal.returns
+returns c = search seen_end

@@ -1,0 +1,6 @@
+use Rattle.rewriting.proofs.Cases.{rewrite-done}
+use borrow.Author.Rules.{rules}
+use Rattle.rewriting.proofs.rewrite.Goals as goal
+
+pub returns : goal.returns
+returns c = search rewrite-done

@@ -1,0 +1,7 @@
+use mathlib.Core.Path.{subst}
+use Rattle.spelling.specs.Strings.{NumbersFit}
+use borrow.Author.Rules.{rules}
+use Rattle.spelling.proofs.names_fit.Goals as goal
+
+pub returns : goal.returns
+returns c = subst NumbersFit c.names_in.ensures c.numbers_fit.ensures

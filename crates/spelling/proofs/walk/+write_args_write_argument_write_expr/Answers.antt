@@ -1,0 +1,26 @@
+use Rattle.spelling.proofs.Walking.{args_more, args_none, argument-wrote, text-token, wrote-limit, wrote_nothing}
+use Rattle.tokens.proofs.Places.{fits}
+use borrow.Author.Rules.{rules}
+use Prim.Native.Nat.{ℕ, ◌+◌, ◌*◌, ◌<◌}
+use Rattle.spelling.proofs.walk.+write_args_write_argument_write_expr.Goals as goal
+
+pub write_args-returns-then-k-eq0 : goal.write_args-returns-then-k-eq0
+write_args-returns-then-k-eq0 t c = search args_none
+
+pub write_args-returns : goal.write_args-returns
+write_args-returns t c = search args_more
+
+pub write_argument-returns : goal.write_argument-returns
+write_argument-returns t c = search argument-wrote
+
+pub write_expr-returns-then-nest-eq0 : goal.write_expr-returns-then-nest-eq0
+write_expr-returns-then-nest-eq0 t c = search wrote-limit
+
+pub write_expr-overflow_add-start : goal.write_expr-overflow_add-start
+write_expr-overflow_add-start t c = search fits
+
+pub write_expr-returns-then-is_token : goal.write_expr-returns-then-is_token
+write_expr-returns-then-is_token t c = search text-token
+
+pub write_expr-returns-else-is_token : goal.write_expr-returns-else-is_token
+write_expr-returns-else-is_token t c = search wrote_nothing

@@ -1,0 +1,14 @@
+use Rattle.spelling.proofs.Walking.{args_more, args_none, argument-wrote, text-token, wrote-limit, wrote_nothing}
+use Rattle.tokens.proofs.Places.{fits}
+use borrow.Author.Rules.{rules}
+use Prim.Native.Nat.{ℕ, ◌+◌, ◌*◌, ◌<◌}
+use Rattle.spelling.proofs.walk.+write_args_write_argument_write_expr.Given as goal
+
+abbrev pub decreases-write_args : goal.decreases-write_args
+decreases-write_args l = l.nest * 512 + l.k + 2
+
+abbrev pub decreases-write_argument : goal.decreases-write_argument
+decreases-write_argument l = l.nest * 512 + 1
+
+abbrev pub decreases-write_expr : goal.decreases-write_expr
+decreases-write_expr l = l.nest * 512
