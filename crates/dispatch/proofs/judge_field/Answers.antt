@@ -7,7 +7,7 @@ pub module_field-requires : goal.module_field-requires
 module_field-requires c = search module-asks
 
 pub extends_field-requires : goal.extends_field-requires
-extends_field-requires c = extends-asks _ _ _ _ _ _ _ _ _ c.parts-in-Extends-1.given.1 c.requires
+extends_field-requires c = extends-asks _ _ _ _ _ _ _ _ _ c.in-Extends.is c.requires
 
 pub constant_stands-requires : goal.constant_stands-requires
 constant_stands-requires c = search declaration-asks
@@ -16,13 +16,13 @@ pub variable_stands-requires : goal.variable_stands-requires
 variable_stands-requires c = search declaration-asks
 
 pub definition_field-requires : goal.definition_field-requires
-definition_field-requires c = definition-asks _ _ _ _ _ _ _ _ _ _ _ c.parts-in-Definition-1.given.1 c.requires
+definition_field-requires c = definition-asks _ _ _ _ _ _ _ _ _ _ _ c.in-Definition.is c.requires
 
 pub instance_field-requires : goal.instance_field-requires
 instance_field-requires c = search instance-asks
 
 pub end_field-requires : goal.end_field-requires
-end_field-requires c = end-of-asks _ _ _ _ _ _ _ c.enum_told-1.given.1 c.requires
+end_field-requires c = end-of-asks _ _ _ _ _ _ _ c.in-EndModule.is c.requires
 
 pub assume_field-requires : goal.assume_field-requires
 assume_field-requires c = search formula-asks
@@ -52,13 +52,13 @@ pub returns-in-EndModule : goal.returns-in-EndModule
 returns-in-EndModule c = search by_end
 
 pub returns-in-Assume : goal.returns-in-Assume
-returns-in-Assume c = by-any-length _ _ _ _ _ _ _ _ _ (Assume _) _ _ c.parts-in-Assume-1.given.1 c.assume_field.ensures
+returns-in-Assume c = by-any-length _ _ _ _ _ _ _ _ _ (Assume _) _ _ c.in-Assume.is c.assume_field.ensures
 
 pub returns-in-Theorem : goal.returns-in-Theorem
-returns-in-Theorem c = by-any-length _ _ _ _ _ _ _ _ _ (Theorem _) _ _ c.parts-in-Theorem-1.given.1 c.theorem_field.ensures
+returns-in-Theorem c = by-any-length _ _ _ _ _ _ _ _ _ (Theorem _) _ _ c.in-Theorem.is c.theorem_field.ensures
 
 pub returns-in-Cut : goal.returns-in-Cut
-returns-in-Cut c = by-cut _ _ _ _ _ _ _ c.enum_told-in-Cut-1.given.1 c.requires
+returns-in-Cut c = by-cut _ _ _ _ _ _ _ c.in-Cut.is c.requires
 
 pub returns-in-EndOfFile : goal.returns-in-EndOfFile
-returns-in-EndOfFile c = by-end-of-file _ _ _ _ _ _ _ c.enum_told-in-EndOfFile-1.given.1 c.requires
+returns-in-EndOfFile c = by-end-of-file _ _ _ _ _ _ _ c.in-EndOfFile.is c.requires

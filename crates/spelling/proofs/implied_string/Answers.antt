@@ -5,4 +5,4 @@ use borrow.Author.Rules.{rules}
 use Rattle.spelling.proofs.implied_string.Goals as goal
 
 pub returns : goal.returns
-returns c = implied-string _ _ _ _ _ _ _ _ _ _ _ _ _ _ _ _ _ _ _ _ _ _ _ c.names_fit.ensures (omega arith) refl refl c.named-rest.ensures c.leads-a.ensures refl (same_length c)
+returns c = implied-string _ _ _ _ _ _ _ _ _ _ _ _ _ _ _ _ _ _ _ _ _ _ _ c.names_fit.ensures (omega arith) refl refl c.named-rest.ensures c.leads-a.ensures refl (search rules)

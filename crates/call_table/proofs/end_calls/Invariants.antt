@@ -1,0 +1,12 @@
+use borrow.Author.Rules.{rules}
+use Rattle.call_table.specs.Walking.{Ending}
+use Rattle.call_table.proofs.Ending.{ending-end, ending-failed, ending-on, ending-start}
+use Rattle.call_table.proofs.Noting.{sized_same}
+use Rattle.call_table.proofs.Passing.{unfailed}
+use Rattle.call_table.proofs.end_calls.Given as goal
+
+abbrev pub invariant-loop-r : goal.invariant-loop-r
+invariant-loop-r l = Ending l.a l.shapes l.n l.l l.known l.r l.initial.table l.table
+
+abbrev pub decreases-loop-r : goal.decreases-loop-r
+decreases-loop-r l = l.r

@@ -1,0 +1,12 @@
+use Prim.Native.Nat.{◌-◌}
+use lib.ListN.{length}
+use Rattle.call_table.specs.Walking.{Walking}
+use Rattle.call_table.proofs.Passing.{not_done, unfailed, walking-done, walking-failed, walking-less, walking_on, walking-over, walking_start}
+use borrow.Author.Rules.{rules}
+use Rattle.call_table.proofs.term_end.Given as goal
+
+abbrev pub invariant-loop-w : goal.invariant-loop-w
+invariant-loop-w l = Walking l.a l.shapes l.n l.l l.known l.table l.initial.w l.w
+
+abbrev pub decreases-loop-w : goal.decreases-loop-w
+decreases-loop-w l = length l.a - l.w.at

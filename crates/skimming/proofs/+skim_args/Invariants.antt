@@ -1,0 +1,20 @@
+use Prim.Native.Nat.{◌+◌, ◌-◌, ◌*◌, suc}
+use native.Mathlib.Omega.{arith}
+use Rattle.limits.specs.Limits.{max_arity}
+use Rattle.context.specs.Parts.{part}
+use Rattle.store.specs.Store.{held}
+use Rattle.skimming.proofs.Walking.{Going, going-below, going_end, going-inside, going-leaf, going-low, going_on, going_start, going-within, stop-inside, stop-limit, stop-token}
+use borrow.Author.Rules.{rules}
+use Prim.Native.Nat.{ℕ, ◌<◌}
+use Rattle.skimming.proofs.+skim_args.Given as goal
+
+abbrev pub decreases-skim_args : goal.decreases-skim_args
+decreases-skim_args l = l.g.nest
+
+abbrev pub invariant-loop-k : goal.invariant-loop-k
+invariant-loop-k l =
+    Going (held l.store).names (held l.store).facts (part (held l.store).contexts l.p.from (l.p.end - l.p.from)) l.p.params l.s l.g.at l.g.count l.g.nest l.g.around l.g.within l.a l.k l.nest l.outer l.last
+
+abbrev pub decreases-loop-k : goal.decreases-loop-k
+decreases-loop-k l =
+    l.nest * suc max_arity + l.k

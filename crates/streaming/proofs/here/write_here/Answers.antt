@@ -1,0 +1,19 @@
+use Rattle.streaming.proofs.HereCases.{shifted-narrow, shifted-near, short-room, short-wide, told, writes}
+use borrow.Author.Rules.{rules}
+use Rattle.streaming.proofs.here.write_here.Lts as lts
+use Rattle.streaming.proofs.here.write_here.Goals as goal
+
+pub returns-then-shifts_wide : goal.returns-then-shifts_wide
+returns-then-shifts_wide c = search (rules, short-wide)
+
+pub shifted-requires : goal.shifted-requires
+shifted-requires c = (search rules, search rules, search told)
+
+pub put_one-f-requires : goal.put_one-f-requires
+put_one-f-requires c = (search rules, search shifted-narrow, search shifted-near)
+
+pub returns-then-f : goal.returns-then-f
+returns-then-f c = search (rules, writes)
+
+pub returns : goal.returns
+returns c = search (rules, short-room)
