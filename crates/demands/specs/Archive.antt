@@ -65,7 +65,7 @@ expand_writes file lent m n bytes output = (expansion_query file lent m n bytes 
 abbrev pub Enough : List ℕ → Type 0
 Enough lent = card_memory_bytes ≤ length lent
 
--- What the fields of a file add, one after the other, from nothing (`Demand2.what-fields-add`). Where a field is at fault it is `start`, of which nothing is said: whatever
+-- What the fields of a file add, one after the other, from nothing (`Demand2.what_fields_add`). Where a field is at fault it is `start`, of which nothing is said: whatever
 -- speaks of `state_of file` has a file that is accepted.
 abbrev pub state_in : Outcome State → State
 state_in (result s) = s

@@ -87,10 +87,10 @@ pub record Cards (file left : List ℕ) (k : ℕ) : Type 0 where
       → (level (by_cards (card_in left)) levels (term_of file m n bytes b) ≡ level long_way levels u)
       × (verdict (level (by_cards (card_in left)) levels (term_of file m n bytes b)) ≡ verdict (level long_way levels u))
   -- "Every card of such a file, whatever levels its definition's parameters have, gives the level of that definition so replaced", "a brought one taken as its
-  -- instance brings it" (InFull's by-instance). For a brought one the rules find the card, by definition, from the levels of its expansion, since it must not come from the original's
+  -- instance brings it" (InFull's by_instance). For a brought one the rules find the card, by definition, from the levels of its expansion, since it must not come from the original's
   -- card; what is proved of it here is that replacing in full comes to that expansion (`in-full`, proofs/InFull), and that the card says its level at every vector (`exact-cards`). That
   -- this level is that of the original's text, read through the chain of instances, is `every-card-in-world` (crates/worlds/proofs/File); that the bytes in memory are the rules' cards is
-  -- `Demand2.every-card-byte`.
+  -- `Demand2.every_card_byte`.
   pub every_card : (g : ℕ) (levels : List ℕ) → g < k → length levels ≡ params_of (state_of file) g → Levels levels
       → (u : Term) → InFull (state_of file) (name_at_params (state_of file) g) u → card_in left g levels ≡ level long_way levels u
   pub definitions_can_be_replaced : (g : ℕ) → g < k → (u : Term) × InFull (state_of file) (name_at_params (state_of file) g) u

@@ -38,7 +38,7 @@ pub record CheckReplied (file lent : List ℕ) (k : ℕ) : Type 0 where
   pub counted : k ≡ length (state_of file).definitions
 
 -- LEVEL. "The cards give an expression its level": l is the level of the expression, with the levels given for its parameters, a defined name having "what its card
--- says at the levels of its arguments". The cards are the bytes that a check leaves (`Demand2.every-card-byte`); this query leaves the same (`Demand2.query-cards`).
+-- says at the levels of its arguments". The cards are the bytes that a check leaves (`Demand2.every_card_byte`); this query leaves the same (`Demand2.query_cards`).
 pub record LevelReplied (file lent : List ℕ) (m : ℕ) (levels bytes : List ℕ) (l : ℕ) : Type 0 where
   pub room : Enough lent
   pub obeys : Obeys file

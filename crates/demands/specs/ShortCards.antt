@@ -1,5 +1,5 @@
 -- SHORT CARDS ARE EXACT, paper 02, L7, as one record; theorem `short-cards` (proofs/ShortCards). It speaks of the bytes that a check leaves in the lent memory; every query
--- leaves the same (`Demand2.query-cards`).
+-- leaves the same (`Demand2.query_cards`).
 --
 -- "The level at any vector is 4 if a level is not taken or a set pair holds a 2 and a 3; else the highest of byte 1 and the weighted levels. Prove this exact for every
 -- expanded body, and that equal cards mean equal levels at every vector."

@@ -1,0 +1,19 @@
+-- `reading::level_above`: what is left to look at decides.
+use mathlib.Core.Path.{◌≡◌, refl}
+use Prim.Native.Nat.{◌-◌}
+use lib.ListN.{length}
+use Rattle.asking.proofs.Levels.{above-found, above-next, above-none, above_from}
+use borrow.Author.Rules.{rules}
+use Rattle.asking.proofs.reading.level_above.Goals as goal
+
+pub loop-i-init : goal.loop-i-init
+loop-i-init c = refl
+
+pub returns-then-levels-i : goal.returns-then-levels-i
+returns-then-levels-i c = search above-found
+
+pub loop-i-preserved : goal.loop-i-preserved
+loop-i-preserved c = search above-next
+
+pub returns : goal.returns
+returns c = search above-none

@@ -1,0 +1,12 @@
+use mathlib.Core.Path.{◌≡◌, refl}
+use Prim.Native.Nat.{◌-◌}
+use lib.ListN.{length}
+use Rattle.asking.proofs.Levels.{above-found, above-next, above-none, above_from}
+use borrow.Author.Rules.{rules}
+use Rattle.asking.proofs.reading.level_above.Given as goal
+
+abbrev pub invariant-loop-i : goal.invariant-loop-i
+invariant-loop-i l = above_from l.levels l.i ≡ above_from l.levels 0
+
+abbrev pub decreases-loop-i : goal.decreases-loop-i
+decreases-loop-i l = length l.levels - l.i

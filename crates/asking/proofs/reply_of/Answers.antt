@@ -1,0 +1,13 @@
+-- `reply_of`: by where the walk ended.
+use Rattle.asking.proofs.Causes.{reply-kept, reply-left-over, reply-limit}
+use borrow.Author.Rules.{rules}
+use Rattle.asking.proofs.reply_of.Goals as goal
+
+pub returns-then-w-expr : goal.returns-then-w-expr
+returns-then-w-expr c = search reply-kept
+
+pub returns-then-w : goal.returns-then-w
+returns-then-w c = search reply-left-over
+
+pub returns : goal.returns
+returns c = search reply-limit

@@ -1,0 +1,46 @@
+-- The walk over arguments: its invariant is that of skimming and that of the walk over a text.
+use native.Mathlib.Omega.{arith}
+use Prim.Native.Nat.{◌+◌, ◌-◌, ◌*◌, suc}
+use Rattle.limits.specs.Limits.{max_arity}
+use Rattle.context.specs.Parts.{part}
+use Rattle.store.specs.Store.{held}
+use Rattle.asking.proofs.Walking.{Going, going-bits, going-bound, going_end, going-inside, going-leaf, going_on, going-roomy, going_start, stop-inside, stop-limit, stop-token}
+use borrow.Author.Rules.{rules}
+use Prim.Native.Nat.{ℕ, ◌<◌}
+use Rattle.asking.proofs.walk.+walk_args.Goals as goal
+
+pub loop-k-init : goal.loop-k-init
+loop-k-init t c = search (rules, going_start)
+
+pub returns-then-nest-eq0 : goal.returns-then-nest-eq0
+returns-then-nest-eq0 t c = stop-limit _ _ _ _ _ _ _ _ _ _ _ _ _ _ _ _ _ _ _ c.loop-k.invariant (search rules) (search rules) _ c.stopped.ensures
+
+pub next_step-t-requires : goal.next_step-t-requires
+next_step-t-requires t c = search (rules, going-bits, going-bound)
+
+pub loop-k-preserved-then-t-eq0 : goal.loop-k-preserved-then-t-eq0
+loop-k-preserved-then-t-eq0 t c = going-leaf _ _ _ _ _ _ _ _ _ _ _ _ _ _ _ _ _ _ _ c.loop-k.invariant c.loop-k-test.true _ c.scope-e.ensures _ c.first_label-l.ensures _ c.next_step-t.ensures c.if-t.true c.if-nest-eq0.false c.if-t-eq0.true
+
+pub loop-k-preserved-then-k-eq1 : goal.loop-k-preserved-then-k-eq1
+loop-k-preserved-then-k-eq1 t c = going-inside _ _ _ _ _ _ _ _ _ _ _ _ _ _ _ _ _ _ _ c.loop-k.invariant c.loop-k-test.true _ c.scope-e.ensures _ c.first_label-l.ensures _ c.next_step-t.ensures c.if-t.true c.if-nest-eq0.false c.if-k-eq1.true
+
+pub walk_args-b-requires : goal.walk_args-b-requires
+walk_args-b-requires t c = (omega (arith, c.loop-k.invariant.causes.deep), (c.requires.0, c.requires.1, going-roomy _ _ _ _ _ _ _ _ _ _ _ _ _ _ _ _ _ _ _ c.loop-k.invariant c.loop-k-test.true _ c.scope-e.ensures _ c.first_label-l.ensures _ c.next_step-t.ensures c.if-t.true c.if-nest-eq0.false _, c.next_step-t.ensures.causes.few))
+
+pub overflow_sub-k-then-b : goal.overflow_sub-k-then-b
+overflow_sub-k-then-b t c = omega (arith, c.loop-k-test.true)
+
+pub loop-k-smaller : goal.loop-k-smaller
+loop-k-smaller t c = omega (arith, c.loop-k-test.true)
+
+pub loop-k-preserved : goal.loop-k-preserved
+loop-k-preserved t c = going_on _ _ _ _ _ _ _ _ _ _ _ _ _ _ _ _ _ _ _ c.loop-k.invariant c.loop-k-test.true _ c.scope-e.ensures _ c.first_label-l.ensures _ c.next_step-t.ensures c.if-t.true c.if-nest-eq0.false _ c.walk_args-b.ensures c.if-b.true _ c.both-a.ensures
+
+pub returns-then-t : goal.returns-then-t
+returns-then-t t c = stop-inside _ _ _ _ _ _ _ _ _ _ _ _ _ _ _ _ _ _ _ c.loop-k.invariant c.loop-k-test.true _ c.scope-e.ensures _ c.first_label-l.ensures _ c.next_step-t.ensures c.if-t.true c.if-nest-eq0.false _ c.walk_args-b.ensures c.if-b.false _ c.stopped-then-t.ensures
+
+pub returns-in-loop-k : goal.returns-in-loop-k
+returns-in-loop-k t c = stop-token _ _ _ _ _ _ _ _ _ _ _ _ _ _ _ _ _ _ _ c.loop-k.invariant c.loop-k-test.true _ c.scope-e.ensures _ c.first_label-l.ensures _ c.next_step-t.ensures c.if-t.false _ c.stopped-in-loop-k.ensures
+
+pub returns : goal.returns
+returns t c = going_end _ _ _ _ _ _ _ _ _ _ _ _ _ _ _ _ _ _ _ c.loop-k.invariant (search rules)

@@ -1,0 +1,20 @@
+use native.Mathlib.Omega.{arith}
+use Prim.Native.Nat.{◌+◌, ◌-◌, ◌*◌, suc}
+use Rattle.limits.specs.Limits.{max_arity}
+use Rattle.context.specs.Parts.{part}
+use Rattle.store.specs.Store.{held}
+use Rattle.asking.proofs.Walking.{Going, going-bits, going-bound, going_end, going-inside, going-leaf, going_on, going-roomy, going_start, stop-inside, stop-limit, stop-token}
+use borrow.Author.Rules.{rules}
+use Prim.Native.Nat.{ℕ, ◌<◌}
+use Rattle.asking.proofs.walk.+walk_args.Given as goal
+
+abbrev pub decreases-walk_args : goal.decreases-walk_args
+decreases-walk_args l = l.g.nest
+
+abbrev pub invariant-loop-k : goal.invariant-loop-k
+invariant-loop-k l =
+    Going (held l.store).names (held l.store).facts (part (held l.store).contexts l.p.from (l.p.end - l.p.from)) l.words l.p.params l.s l.g.at l.g.count l.g.nest (record { around = l.initial.around; within = l.initial.within; label = l.initial.label; labels = l.initial.labels }) l.g.form l.a l.form l.k l.nest l.around l.within l.label l.labels
+
+abbrev pub decreases-loop-k : goal.decreases-loop-k
+decreases-loop-k l =
+    l.nest * suc max_arity + l.k

@@ -1,0 +1,9 @@
+use Rattle.replacing.proofs.Running.{here_in, inside-in}
+use borrow.Author.Rules.{rules}
+use Rattle.replacing.proofs.step.Goals as goal
+
+pub returns-then-s : goal.returns-then-s
+returns-then-s c = search inside-in
+
+pub returns : goal.returns
+returns c = search here_in

@@ -1,0 +1,17 @@
+use mathlib.Core.Path.{◌≡◌, refl}
+use lib.ListN.{length}
+use native.Mathlib.Omega.{arith}
+use Rattle.store.specs.Store.{held}
+use Rattle.templates.specs.Shaped.{text_bytes}
+use Rattle.templates.specs.Taking.{work_bytes}
+use Rattle.templates.proofs.Taking.{Underway, underway-end, underway-no, underway-start, underway-turn}
+use borrow.Author.Rules.{rules}
+use Rattle.templates.proofs.making.take_all.Given as goal
+
+abbrev pub invariant-loop-h : goal.invariant-loop-h
+invariant-loop-h l =
+    Underway l.file l.refs (held l.store) (held l.store).declared l.numbers l.currents l.outers l.along l.initial.work l.len l.work l.q l.h × (length l.text ≡ text_bytes) × (length l.filled ≡ work_bytes) × (length l.work ≡ work_bytes)
+
+abbrev pub decreases-loop-h : goal.decreases-loop-h
+decreases-loop-h l =
+    l.h
