@@ -1,7 +1,7 @@
 // What the listing program does.
 #![tactic(auto)]
 
-ghost use Rattle.std.specs.Prelude.{◌≡◌, ℕ, ◌+◌, ◌<◌, ◌≤◌, ◌⊎◌, IfOk, OnOk, OnErr, length, take};
+ghost use Rattle.std.specs.Prelude.{◌≡◌, ℕ, ◌+◌, ◌<◌, ◌≤◌, ◌⊎◌, IfOk, IfSome, OnOk, OnErr, length, take};
 ghost use Rattle.std.specs.Io.KnownBytes.{Appends, Consumes, IsAtEnd};
 ghost use Rattle.limits.specs.Limits.{file_bytes};
 ghost use Rattle.rules.specs.Listing.{listing_of};
@@ -58,9 +58,10 @@ fn print_listing_of<W: Write>(
     print_listing(&input[..n], text, to)
 }
 
-// Reads an input and prints its listing. What comes after the room for an input is not read: no listing depends on it (cut-input of laws).
-// What text holds is said whatever was read; what a reader had and what a writer got, where those are known. Where reading fails nothing is
-// printed, and text is as it was; where printing fails text holds the listing of what was read.
+// Reads an input and prints its listing. What comes after the room for an input is not read: no listing depends on it, so what is printed is the
+// listing of all that the reader had (`whole`). The clauses on text hold whatever is read and wherever it is printed; those on what the reader has
+// and the writer gets say something where these are known. Where reading fails nothing is printed, and text is as it was; where printing fails
+// text holds the listing of what was read.
 pub fn list_input<R: Read, W: Write>(
     from: &mut R,
     to: &mut W,
@@ -74,6 +75,7 @@ pub fn list_input<R: Read, W: Write>(
     ensures consumed { IfOk result (λ l. Consumes (R.remaining from.old) (R.remaining from.new) (take l.read input.new)) }
     ensures end { IfOk result (λ l. l.read < length input.new → IsAtEnd (R.remaining from.new)) }
     ensures printed { IfOk result (λ l. Appends (W.contents to.old) (W.contents to.new) (listing_of (take l.read input.new))) }
+    ensures whole { IfOk result (λ l. IfSome (R.remaining from.old) (λ xs. Appends (W.contents to.old) (W.contents to.new) (listing_of xs))) }
     ensures err { OnErr result ((text.new ≡ text.old) ⊎ ((n : ℕ) × (n ≤ length input.new) × (text.new ≡ overwrite (listing_of (take n input.new)) text.old))) }
 {
     let read = read_full(from, input)?;
