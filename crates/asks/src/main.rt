@@ -5,11 +5,13 @@
 // the whole output. Ends where the input does, or at a number that is more than there is room for.
 #![tactic(auto)]
 
-ghost use Rattle.std.specs.Prelude.{◌≤◌, ◌<◌, length};
+ghost use Rattle.std.specs.Prelude.{◌≤◌, ◌<◌, IfOk, length};
 
-use libc::{STDIN_FILENO, STDOUT_FILENO};
 use list_file::Input;
 use rafterclary::{rafterclary_alike, rafterclary_body, rafterclary_expand, rafterclary_level};
+use reading::read_full;
+use std::io;
+use std::io::Read;
 use unpacking::{Number, Span, Truth, unpack, unpack_span, unpack_truth};
 
 #[derive(Drop)]
@@ -33,37 +35,35 @@ fn wide(x: u8) -> usize
 }
 
 // The number that comes next, or one that there is no room for where the input ends.
-fn next_number() -> usize
-    ensures { result ≤ 16777215 }
+fn next_number(from: &mut impl Read) -> io::Result<usize>
+    ensures { IfOk result (λ n. n ≤ 16777215) }
 {
     let mut head = [0u8; 3];
-    let got = io::read_full(STDIN_FILENO, &mut head);
+    let got = read_full(from, &mut head)?;
     if got < 3 {
-        return 16777215;
+        return Ok(16777215);
     }
-    65536 * wide(head[0]) + 256 * wide(head[1]) + wide(head[2])
+    Ok(65536 * wide(head[0]) + 256 * wide(head[1]) + wide(head[2]))
 }
 
 // Reads a part after its length: the length, or a number that there is no room for.
-fn read_part(space: &mut [u8]) -> usize {
-    let size = next_number();
+fn read_part(from: &mut impl Read, space: &mut [u8]) -> io::Result<usize> {
+    let size = next_number(from)?;
     if space.len() < size {
-        return size;
+        return Ok(size);
     }
     let part = &mut space[..size];
-    let got = io::read_full(STDIN_FILENO, part);
+    let got = read_full(from, part)?;
     if got < size {
-        return 16777215;
+        return Ok(16777215);
     }
-    size
+    Ok(size)
 }
 
 // No byte before a call is 0 or a level, and none is as the byte beside it.
 fn mark(memory: &mut [u8]) {
-    let mut i: usize = 0;
-    while i < memory.len() {
-        memory[i] = 128 + (i % 64) as u8;
-        i += 1;
+    for (i, byte) in memory.iter_mut().enumerate() {
+        *byte = 128 + (i % 64) as u8;
     }
 }
 
@@ -71,52 +71,49 @@ fn checksum(memory: &[u8]) -> usize
     ensures { result < 65521 }
 {
     let mut s: usize = 0;
-    let mut i: usize = 0;
-    while i < memory.len() {
-        s = (s * 31 + wide(memory[i])) % 65521;
-        i += 1;
+    for byte in memory {
+        s = (s * 31 + wide(*byte)) % 65521;
     }
     s
 }
 
 // A word that ends in a space, a number and a space.
-fn print_number(word: &[u8], x: u64) {
-    io::write_all(STDOUT_FILENO, word);
-    io::print_decimal(STDOUT_FILENO, x);
-    io::write_all(STDOUT_FILENO, b" ");
+fn print_number(to: &impl Print, word: &str, x: u64) -> io::Result<()> {
+    print!(to; "{word}{x} ")
 }
 
-fn print_refusal(c: u64, p: u64) {
-    print_number(b"refused ", c);
-    print_number(b"", p)
+fn print_refusal(to: &impl Print, c: u64, p: u64) -> io::Result<()> {
+    print_number(to, "refused ", c)?;
+    print_number(to, "", p)
 }
 
-fn print_reply(reply: Number) {
+fn print_reply(to: &impl Print, reply: Number) -> io::Result<()> {
     match reply {
-        Number::Result(n) => print_number(b"ok ", n as u64),
-        Number::Refused(c, p) => print_refusal(c as u64, p as u64),
+        Number::Result(n) => print_number(to, "ok ", n as u64),
+        Number::Refused(c, p) => print_refusal(to, c as u64, p as u64),
     }
 }
 
-fn print_truth(reply: Truth) {
+fn print_truth(to: &impl Print, reply: Truth) -> io::Result<()> {
     match reply {
-        Truth::Result(b) => print_number(b"ok ", if b { 1 } else { 0 }),
-        Truth::Refused(c, p) => print_refusal(c as u64, p as u64),
+        Truth::Result(b) => print_number(to, "ok ", if b { 1 } else { 0 }),
+        Truth::Refused(c, p) => print_refusal(to, c as u64, p as u64),
     }
 }
 
-fn print_span(reply: Span) {
+fn print_span(to: &impl Print, reply: Span) -> io::Result<()> {
     match reply {
         Span::Result(start, size) => {
-            print_number(b"ok ", start);
-            print_number(b"", size)
+            print_number(to, "ok ", start)?;
+            print_number(to, "", size)
         }
-        Span::Refused(c, p) => print_refusal(c, p),
+        Span::Refused(c, p) => print_refusal(to, c, p),
     }
 }
 
 // Asks in the memory lent, and prints the reply; the level query is kind 1, then come alike and body.
 fn ask(
+    to: &impl Print,
     kind: usize,
     first: usize,
     second: usize,
@@ -124,27 +121,28 @@ fn ask(
     levels: &[u8],
     expr: &[u8],
     cards: &mut [u8],
-)
+) -> io::Result<()>
     requires { (first ≤ 16777215) × (second ≤ 16777215) }
 {
     match kind {
         1 => {
             let reply = rafterclary_level(file, cards, (first % 65536) as u16, expr, levels);
-            print_reply(unpack(reply))
+            print_reply(to, unpack(reply))
         }
         2 => {
             let reply = rafterclary_alike(file, cards, first as u32, second as u32);
-            print_truth(unpack_truth(reply))
+            print_truth(to, unpack_truth(reply))
         }
         _ => {
             let reply = rafterclary_body(file, cards, first as u32);
-            print_span(unpack_span(reply))
+            print_span(to, unpack_span(reply))
         }
     }
 }
 
 // Asks in the first `lent` bytes of the memory, and prints the line.
 fn ask_in(
+    to: &impl Print,
     kind: usize,
     first: usize,
     second: usize,
@@ -153,17 +151,26 @@ fn ask_in(
     expr: &[u8],
     memory: &mut [u8],
     lent: usize,
-) -> bool
+) -> io::Result<()>
     requires { (first ≤ 16777215) × (second ≤ 16777215) × (lent ≤ length memory.old) }
 {
     mark(memory);
-    ask(kind, first, second, file, levels, expr, &mut memory[..lent]);
-    io::print_decimal(STDOUT_FILENO, checksum(memory) as u64);
-    io::write_all(STDOUT_FILENO, b"\n")
+    ask(
+        to,
+        kind,
+        first,
+        second,
+        file,
+        levels,
+        expr,
+        &mut memory[..lent],
+    )?;
+    println!(to; "{}", checksum(memory))
 }
 
 // Asks for the expansion over so many parameters, kind 4, in the first bytes of both memories, and prints the line.
 fn expand_in(
+    to: &impl Print,
     name: usize,
     params: usize,
     file: &[u8],
@@ -172,7 +179,7 @@ fn expand_in(
     lent: usize,
     out: &mut [u8],
     room: usize,
-) -> bool
+) -> io::Result<()>
     requires { (lent ≤ length memory.old) × (room ≤ length out.old) }
 {
     mark(memory);
@@ -185,14 +192,15 @@ fn expand_in(
         (params % 256) as u8,
         &mut out[..room],
     );
-    print_reply(unpack(reply));
-    print_number(b"", checksum(memory) as u64);
-    io::print_decimal(STDOUT_FILENO, checksum(out) as u64);
-    io::write_all(STDOUT_FILENO, b"\n")
+    print_reply(to, unpack(reply))?;
+    print_number(to, "", checksum(memory) as u64)?;
+    println!(to; "{}", checksum(out))
 }
 
 // Reads the output's length, which ends a record, and asks; whether there was one.
 fn ask_into(
+    from: &mut impl Read,
+    to: &impl Print,
     kind: usize,
     first: usize,
     second: usize,
@@ -202,21 +210,25 @@ fn ask_into(
     memory: &mut [u8],
     lent: usize,
     out: &mut [u8],
-) -> bool
+) -> io::Result<bool>
     requires { (first ≤ 16777215) × (second ≤ 16777215) × (lent ≤ length memory.old) }
 {
-    let room = next_number();
+    let room = next_number(from)?;
     if out.len() < room {
-        return false;
+        return Ok(false);
     }
     if kind == 4 {
-        return expand_in(first, second, file, expr, memory, lent, out, room);
+        expand_in(to, first, second, file, expr, memory, lent, out, room)?;
+    } else {
+        ask_in(to, kind, first, second, file, levels, expr, memory, lent)?;
     }
-    ask_in(kind, first, second, file, levels, expr, memory, lent)
+    Ok(true)
 }
 
 // Reads a record from its expression on, and asks; whether there was one.
 fn ask_expression(
+    from: &mut impl Read,
+    to: &impl Print,
     kind: usize,
     first: usize,
     second: usize,
@@ -226,14 +238,16 @@ fn ask_expression(
     memory: &mut [u8],
     lent: usize,
     out: &mut [u8],
-) -> bool
+) -> io::Result<bool>
     requires { (first ≤ 16777215) × (second ≤ 16777215) × (lent ≤ length memory.old) }
 {
-    let size = read_part(expr);
+    let size = read_part(from, expr)?;
     if expr.len() < size {
-        return false;
+        return Ok(false);
     }
     ask_into(
+        from,
+        to,
         kind,
         first,
         second,
@@ -248,23 +262,27 @@ fn ask_expression(
 
 // Reads a record after its file, and asks; whether there was one.
 fn ask_of(
+    from: &mut impl Read,
+    to: &impl Print,
     file: &[u8],
     levels: &mut [u8],
     expr: &mut [u8],
     memory: &mut [u8],
     lent: usize,
     out: &mut [u8],
-) -> bool
+) -> io::Result<bool>
     requires { lent ≤ length memory.old }
 {
-    let kind = next_number();
-    let first = next_number();
-    let second = next_number();
-    let size = read_part(levels);
+    let kind = next_number(from)?;
+    let first = next_number(from)?;
+    let second = next_number(from)?;
+    let size = read_part(from, levels)?;
     if levels.len() < size {
-        return false;
+        return Ok(false);
     }
     ask_expression(
+        from,
+        to,
         kind,
         first,
         second,
@@ -279,36 +297,56 @@ fn ask_of(
 
 // Reads one record and asks; whether there was one.
 fn ask_next(
+    from: &mut impl Read,
+    to: &impl Print,
     file: &mut [u8],
     levels: &mut [u8],
     expr: &mut [u8],
     memory: &mut [u8],
     out: &mut [u8],
-) -> bool {
-    let lent = next_number();
+) -> io::Result<bool> {
+    let lent = next_number(from)?;
     if memory.len() < lent {
-        return false;
+        return Ok(false);
     }
-    let size = read_part(file);
+    let size = read_part(from, file)?;
     if file.len() < size {
-        return false;
+        return Ok(false);
     }
-    ask_of(&file[..size], levels, expr, memory, lent, out)
+    ask_of(from, to, &file[..size], levels, expr, memory, lent, out)
 }
 
-// A proved loop has to end, and nothing says that the input does: the turns are counted down from a number that no run uses up.
-fn ask_all(file: &mut [u8], levels: &mut [u8], expr: &mut [u8], memory: &mut [u8], out: &mut [u8]) {
-    let mut turns = u64::MAX;
-    while turns > 0 && ask_next(file, levels, expr, memory, out) {
-        turns -= 1;
+// A proved loop has to end, and nothing says that the input does: there are more turns than any run takes.
+fn ask_all(
+    from: &mut impl Read,
+    to: &impl Print,
+    file: &mut [u8],
+    levels: &mut [u8],
+    expr: &mut [u8],
+    memory: &mut [u8],
+    out: &mut [u8],
+) -> io::Result<()> {
+    for _ in 0..u64::MAX {
+        if !ask_next(from, to, file, levels, expr, memory, out)? {
+            break;
+        }
     }
+    Ok(())
 }
 
-fn main() {
+fn main(rt: HostRuntime) -> io::Result<()> {
     let mut file = [0u8; Input::ROOM];
     let mut levels = [0u8; Room::LEVELS];
     let mut expr = [0u8; Room::EXPRESSION];
     let mut memory = [0u8; Room::MEMORY];
     let mut out = [0u8; Room::OUTPUT];
-    ask_all(&mut file, &mut levels, &mut expr, &mut memory, &mut out);
+    ask_all(
+        &mut rt.stdin(),
+        &rt,
+        &mut file,
+        &mut levels,
+        &mut expr,
+        &mut memory,
+        &mut out,
+    )
 }

@@ -6,9 +6,11 @@
 
 ghost use Rattle.std.specs.Prelude.{◌≤◌, ◌<◌, length};
 
-use libc::{STDIN_FILENO, STDOUT_FILENO};
 use list_file::Input;
 use rafterclary::rafterclary_check;
+use reading::read_full;
+use std::io;
+use std::io::Read;
 use unpacking::{Number, unpack};
 
 #[derive(Drop)]
@@ -26,21 +28,19 @@ fn wide(x: u8) -> usize
 }
 
 // The number that comes next, or one that there is no room for where the input ends.
-fn next_number() -> usize {
+fn next_number(from: &mut impl Read) -> io::Result<usize> {
     let mut head = [0u8; 3];
-    let got = io::read_full(STDIN_FILENO, &mut head);
+    let got = read_full(from, &mut head)?;
     if got < 3 {
-        return 65536;
+        return Ok(65536);
     }
-    65536 * wide(head[0]) + 256 * wide(head[1]) + wide(head[2])
+    Ok(65536 * wide(head[0]) + 256 * wide(head[1]) + wide(head[2]))
 }
 
 // No byte before a check is 0 or a level, and none is as the byte beside it.
 fn mark(memory: &mut [u8]) {
-    let mut i: usize = 0;
-    while i < memory.len() {
-        memory[i] = 128 + (i % 64) as u8;
-        i += 1;
+    for (i, byte) in memory.iter_mut().enumerate() {
+        *byte = 128 + (i % 64) as u8;
     }
 }
 
@@ -48,70 +48,78 @@ fn checksum(memory: &[u8]) -> usize
     ensures { result < 65521 }
 {
     let mut s: usize = 0;
-    let mut i: usize = 0;
-    while i < memory.len() {
-        s = (s * 31 + wide(memory[i])) % 65521;
-        i += 1;
+    for byte in memory {
+        s = (s * 31 + wide(*byte)) % 65521;
     }
     s
 }
 
 // A word that ends in a space, a number and a space.
-fn print_number(word: &[u8], x: u64) {
-    io::write_all(STDOUT_FILENO, word);
-    io::print_decimal(STDOUT_FILENO, x);
-    io::write_all(STDOUT_FILENO, b" ");
+fn print_number(to: &impl Print, word: &str, x: u64) -> io::Result<()> {
+    print!(to; "{word}{x} ")
 }
 
-fn print_reply(reply: Number) {
+fn print_reply(to: &impl Print, reply: Number) -> io::Result<()> {
     match reply {
-        Number::Result(n) => print_number(b"ok ", n as u64),
+        Number::Result(n) => print_number(to, "ok ", n as u64),
         Number::Refused(c, p) => {
-            print_number(b"refused ", c as u64);
-            print_number(b"", p as u64)
+            print_number(to, "refused ", c as u64)?;
+            print_number(to, "", p as u64)
         }
     }
 }
 
 // Checks a file in the first `lent` bytes of the memory, and prints.
-fn check_in(file: &[u8], memory: &mut [u8], lent: usize) -> bool
+fn check_in(to: &impl Print, file: &[u8], memory: &mut [u8], lent: usize) -> io::Result<()>
     requires { lent ≤ length memory.old }
 {
     mark(memory);
     let reply = rafterclary_check(file, &mut memory[..lent]);
-    print_reply(unpack(reply));
-    io::print_decimal(STDOUT_FILENO, checksum(memory) as u64);
-    io::write_all(STDOUT_FILENO, b"\n")
+    print_reply(to, unpack(reply))?;
+    println!(to; "{}", checksum(memory))
 }
 
 // Reads one record and checks its file; whether there was one.
-fn check_next(space: &mut [u8], memory: &mut [u8]) -> bool {
-    let lent = next_number();
+fn check_next(
+    from: &mut impl Read,
+    to: &impl Print,
+    space: &mut [u8],
+    memory: &mut [u8],
+) -> io::Result<bool> {
+    let lent = next_number(from)?;
     if memory.len() < lent {
-        return false;
+        return Ok(false);
     }
-    let size = next_number();
+    let size = next_number(from)?;
     if space.len() < size {
-        return false;
+        return Ok(false);
     }
     let file = &mut space[..size];
-    let got = io::read_full(STDIN_FILENO, file);
+    let got = read_full(from, file)?;
     if got < size {
-        return false;
+        return Ok(false);
     }
-    check_in(file, memory, lent)
+    check_in(to, file, memory, lent)?;
+    Ok(true)
 }
 
-// A proved loop has to end, and nothing says that the input does: the turns are counted down from a number that no run uses up.
-fn check_all(space: &mut [u8], memory: &mut [u8]) {
-    let mut turns = u64::MAX;
-    while turns > 0 && check_next(space, memory) {
-        turns -= 1;
+// A proved loop has to end, and nothing says that the input does: there are more turns than any run takes.
+fn check_all(
+    from: &mut impl Read,
+    to: &impl Print,
+    space: &mut [u8],
+    memory: &mut [u8],
+) -> io::Result<()> {
+    for _ in 0..u64::MAX {
+        if !check_next(from, to, space, memory)? {
+            break;
+        }
     }
+    Ok(())
 }
 
-fn main() {
+fn main(rt: HostRuntime) -> io::Result<()> {
     let mut space = [0u8; Input::ROOM];
     let mut memory = [0u8; Memory::BYTES];
-    check_all(&mut space, &mut memory);
+    check_all(&mut rt.stdin(), &rt, &mut space, &mut memory)
 }

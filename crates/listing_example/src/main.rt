@@ -4,9 +4,11 @@
 use lines::Room;
 use list_file::Input;
 use list_input::list_input;
+use std::io;
 
-fn main() {
+fn main(rt: HostRuntime) -> io::Result<()> {
     let mut input = [0u8; Input::ROOM];
     let mut text = [0u8; Room::TEXT];
-    list_input(&mut input, &mut text);
+    list_input(&mut rt.stdin(), &mut rt.stdout(), &mut input, &mut text)?;
+    Ok(())
 }

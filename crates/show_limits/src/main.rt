@@ -1,19 +1,20 @@
 // Prints the limits of paper 01 as the checker was built with them.
 #![tactic(auto)]
 
-fn show(name: &[u8], value: usize) {
-    io::write_all(libc::STDOUT_FILENO, name);
-    io::print_decimal(libc::STDOUT_FILENO, value as u64);
-    io::write_all(libc::STDOUT_FILENO, b"\n");
+use limits::Limits;
+use std::io;
+
+fn show(rt: &impl Print, name: &str, value: usize) -> io::Result<()> {
+    println!(rt; "{name} {value}")
 }
 
-fn main() {
-    show(b"bytes of a file ", limits::Limits::FILE_BYTES);
-    show(b"modules ", limits::Limits::MODULES);
-    show(b"declarations ", limits::Limits::DECLARATIONS);
-    show(b"definitions ", limits::Limits::DEFINITIONS);
-    show(b"parameters or arguments ", limits::Limits::ARITY);
-    show(b"nesting ", limits::Limits::NESTING);
-    show(b"bytes of card memory ", limits::Limits::CARD_MEMORY_BYTES);
-    show(b"bytes of an expansion ", limits::Limits::EXPANSION_BYTES);
+fn main(rt: HostRuntime) -> io::Result<()> {
+    show(&rt, "bytes of a file", Limits::FILE_BYTES)?;
+    show(&rt, "modules", Limits::MODULES)?;
+    show(&rt, "declarations", Limits::DECLARATIONS)?;
+    show(&rt, "definitions", Limits::DEFINITIONS)?;
+    show(&rt, "parameters or arguments", Limits::ARITY)?;
+    show(&rt, "nesting", Limits::NESTING)?;
+    show(&rt, "bytes of card memory", Limits::CARD_MEMORY_BYTES)?;
+    show(&rt, "bytes of an expansion", Limits::EXPANSION_BYTES)
 }

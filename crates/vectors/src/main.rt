@@ -4,10 +4,12 @@
 
 ghost use Rattle.std.specs.Prelude.{◌≤◌};
 
-use libc::STDIN_FILENO;
 use lines::Room;
 use list_file::Input;
 use list_input::print_listing;
+use reading::read_full;
+use std::io;
+use std::io::{Read, Write};
 
 fn wide(x: u8) -> usize
     ensures { result ≤ 255 }
@@ -16,40 +18,52 @@ fn wide(x: u8) -> usize
 }
 
 // The length that comes next, or one that no file may have where the input ends.
-fn next_length() -> usize {
+fn next_length(from: &mut impl Read) -> io::Result<usize> {
     let mut head = [0u8; 3];
-    let got = io::read_full(STDIN_FILENO, &mut head);
+    let got = read_full(from, &mut head)?;
     if got < 3 {
-        return 65536;
+        return Ok(65536);
     }
-    65536 * wide(head[0]) + 256 * wide(head[1]) + wide(head[2])
+    Ok(65536 * wide(head[0]) + 256 * wide(head[1]) + wide(head[2]))
 }
 
 // Reads one file and prints its listing; whether there was one.
-fn list_next(space: &mut [u8], text: &mut [u8; Room::TEXT]) -> bool {
-    let size = next_length();
+fn list_next(
+    from: &mut impl Read,
+    to: &mut impl Write,
+    space: &mut [u8],
+    text: &mut [u8; Room::TEXT],
+) -> io::Result<bool> {
+    let size = next_length(from)?;
     if space.len() < size {
-        return false;
+        return Ok(false);
     }
     let file = &mut space[..size];
-    let got = io::read_full(STDIN_FILENO, file);
+    let got = read_full(from, file)?;
     if got < size {
-        return false;
+        return Ok(false);
     }
-    print_listing(file, text);
-    true
+    print_listing(file, text, to)?;
+    Ok(true)
 }
 
-// A proved loop has to end, and nothing says that the input does: the turns are counted down from a number that no run uses up.
-fn list_all(space: &mut [u8], text: &mut [u8; Room::TEXT]) {
-    let mut turns = u64::MAX;
-    while turns > 0 && list_next(space, text) {
-        turns -= 1;
+// A proved loop has to end, and nothing says that the input does: there are more turns than any run takes.
+fn list_all(
+    from: &mut impl Read,
+    to: &mut impl Write,
+    space: &mut [u8],
+    text: &mut [u8; Room::TEXT],
+) -> io::Result<()> {
+    for _ in 0..u64::MAX {
+        if !list_next(from, to, space, text)? {
+            break;
+        }
     }
+    Ok(())
 }
 
-fn main() {
+fn main(rt: HostRuntime) -> io::Result<()> {
     let mut space = [0u8; Input::ROOM];
     let mut text = [0u8; Room::TEXT];
-    list_all(&mut space, &mut text);
+    list_all(&mut rt.stdin(), &mut rt.stdout(), &mut space, &mut text)
 }
