@@ -1,4 +1,4 @@
-/* The proved level checker, librafterclary.a (`rt staticlib rafterclary`).
+/* The proved level checker, librafterclary.a (`tools/archive` makes it).
  *
  * A slice is a pointer and a length; the pointer may be anything, but not null, where the length
  * is 0. Lent memory must not overlap what is only read, nor other lent memory, and while a call
