@@ -1,4 +1,3 @@
-use borrow.Author.Rules.{rules}
 use Rattle.forms.proofs.Contracts.{level-added}
 use Rattle.forms.proofs.add_level.Goals as goal
 

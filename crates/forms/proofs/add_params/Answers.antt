@@ -1,6 +1,5 @@
 use borrow.Author.Rules.{rules}
-use Prim.Native.Nat.{◌-◌}
-use Rattle.forms.proofs.Leading.{Leading, leading-start, leading-turn, leading_end}
+use Rattle.forms.proofs.Leading.{leading-start, leading-turn, leading_end}
 use Rattle.forms.proofs.add_params.Goals as goal
 
 pub loop-i-init : goal.loop-i-init

@@ -1,6 +1,6 @@
 -- the last argument first: those from i on are in the form
 use borrow.Author.Rules.{rules}
-use Rattle.forms.proofs.Highest.{Joined, joined-start, joined-turn, joined_end}
+use Rattle.forms.proofs.Highest.{joined-start, joined-turn, joined_end}
 use Rattle.forms.proofs.declared_form.Goals as goal
 
 pub loop-i-init : goal.loop-i-init

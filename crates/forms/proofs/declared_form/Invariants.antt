@@ -1,5 +1,4 @@
-use borrow.Author.Rules.{rules}
-use Rattle.forms.proofs.Highest.{Joined, joined-start, joined-turn, joined_end}
+use Rattle.forms.proofs.Highest.{Joined}
 use Rattle.forms.proofs.declared_form.Given as goal
 
 abbrev pub invariant-loop-i : goal.invariant-loop-i

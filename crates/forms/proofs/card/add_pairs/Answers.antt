@@ -1,6 +1,4 @@
-use Prim.Native.Nat.{◌-◌}
-use Rattle.forms.specs.Forms.{level_at}
-use Rattle.forms.proofs.Finding.{Pairing, pair-room, pair-start, pair_turn, pair_end}
+use Rattle.forms.proofs.Finding.{pair-room, pair-start, pair_turn, pair_end}
 use borrow.Author.Rules.{rules}
 use Rattle.forms.proofs.card.add_pairs.Goals as goal
 

@@ -1,7 +1,6 @@
 use Prim.Native.Nat.{◌-◌}
 use Rattle.forms.specs.Forms.{level_at}
-use Rattle.forms.proofs.Finding.{Pairing, pair-room, pair-start, pair_turn, pair_end}
-use borrow.Author.Rules.{rules}
+use Rattle.forms.proofs.Finding.{Pairing}
 use Rattle.forms.proofs.card.add_pairs.Given as goal
 
 abbrev pub invariant-loop-i : goal.invariant-loop-i

@@ -1,7 +1,5 @@
-use Prim.Native.Nat.{◌-◌}
 use borrow.Author.Rules.{rules}
-use Rattle.forms.specs.Forms.{level_at}
-use Rattle.forms.proofs.Finding.{Found, found-start, found_turn, found-byte, found-end}
+use Rattle.forms.proofs.Finding.{found-start, found_turn, found-byte, found-end}
 use Rattle.forms.proofs.card.card_of.Goals as goal
 
 pub loop-i-init : goal.loop-i-init

@@ -1,7 +1,6 @@
 use Prim.Native.Nat.{◌-◌}
-use borrow.Author.Rules.{rules}
 use Rattle.forms.specs.Forms.{level_at}
-use Rattle.forms.proofs.Finding.{Found, found-start, found_turn, found-byte, found-end}
+use Rattle.forms.proofs.Finding.{Found}
 use Rattle.forms.proofs.card.card_of.Given as goal
 
 abbrev pub invariant-loop-i : goal.invariant-loop-i

@@ -1,6 +1,5 @@
 use Rattle.forms.proofs.Finding.{product-low}
 use native.Mathlib.Omega.{arith}
-use borrow.Author.Rules.{rules}
 use Rattle.forms.proofs.card.pair_bit.Goals as goal
 
 pub overflow_mul-result : goal.overflow_mul-result

@@ -1,7 +1,5 @@
 use native.Mathlib.Omega.{arith}
-use Prim.Native.Nat.{◌-◌}
-use Rattle.limits.specs.Limits.{card_bytes}
-use Rattle.forms.proofs.Laying.{Laid, lay-start, lay-turn, lay-length, lay-whole}
+use Rattle.forms.proofs.Laying.{lay-start, lay-turn, lay-length, lay-whole}
 use borrow.Author.Rules.{rules}
 use Rattle.forms.proofs.card.put.Goals as goal
 

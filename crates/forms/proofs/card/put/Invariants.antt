@@ -1,8 +1,6 @@
-use native.Mathlib.Omega.{arith}
 use Prim.Native.Nat.{◌-◌}
 use Rattle.limits.specs.Limits.{card_bytes}
-use Rattle.forms.proofs.Laying.{Laid, lay-start, lay-turn, lay-length, lay-whole}
-use borrow.Author.Rules.{rules}
+use Rattle.forms.proofs.Laying.{Laid}
 use Rattle.forms.proofs.card.put.Given as goal
 
 abbrev pub invariant-loop-k : goal.invariant-loop-k

@@ -1,6 +1,4 @@
-use Prim.Native.Nat.{◌-◌}
-use lib.ListN.{length}
-use Rattle.forms.proofs.Reading.{Reads, reads-start, reads-turn, reads_end}
+use Rattle.forms.proofs.Reading.{reads-start, reads-turn, reads_end}
 use borrow.Author.Rules.{rules}
 use Rattle.forms.proofs.levels.level.Goals as goal
 

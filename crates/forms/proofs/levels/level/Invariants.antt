@@ -1,7 +1,6 @@
 use Prim.Native.Nat.{◌-◌}
 use lib.ListN.{length}
-use Rattle.forms.proofs.Reading.{Reads, reads-start, reads-turn, reads_end}
-use borrow.Author.Rules.{rules}
+use Rattle.forms.proofs.Reading.{Reads}
 use Rattle.forms.proofs.levels.level.Given as goal
 
 abbrev pub invariant-loop-i : goal.invariant-loop-i

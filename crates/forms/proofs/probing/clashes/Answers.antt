@@ -1,5 +1,4 @@
 use Rattle.forms.proofs.Probes.{clashes-one, clashes-other}
-use borrow.Author.Rules.{rules}
 use Rattle.forms.proofs.probing.clashes.Goals as goal
 
 pub returns-then-clash : goal.returns-then-clash

@@ -1,7 +1,4 @@
-use Prim.Native.Nat.{◌-◌}
-use Rattle.limits.specs.Limits.{level_count}
-use Rattle.forms.specs.Forms.{level_at}
-use Rattle.forms.proofs.Finding.{Masking, mask_start, mask-turn, mask-byte, mask_end}
+use Rattle.forms.proofs.Finding.{mask_start, mask-turn, mask-byte, mask_end}
 use borrow.Author.Rules.{rules}
 use Rattle.forms.proofs.probing.mask_of.Goals as goal
 

@@ -1,8 +1,7 @@
 use Prim.Native.Nat.{◌-◌}
 use Rattle.limits.specs.Limits.{level_count}
 use Rattle.forms.specs.Forms.{level_at}
-use Rattle.forms.proofs.Finding.{Masking, mask_start, mask-turn, mask-byte, mask_end}
-use borrow.Author.Rules.{rules}
+use Rattle.forms.proofs.Finding.{Masking}
 use Rattle.forms.proofs.probing.mask_of.Given as goal
 
 abbrev pub invariant-loop-bit : goal.invariant-loop-bit

@@ -1,7 +1,4 @@
-use Prim.Native.Nat.{◌-◌}
-use Rattle.limits.specs.Limits.{level_count}
-use Rattle.forms.specs.Forms.{level_at}
-use Rattle.forms.proofs.Finding.{Weighing, weigh-start, weigh-found, weigh-turn, weigh-end}
+use Rattle.forms.proofs.Finding.{weigh-start, weigh-found, weigh-turn, weigh-end}
 use borrow.Author.Rules.{rules}
 use Rattle.forms.proofs.probing.weighs.Goals as goal
 

@@ -1,8 +1,7 @@
 use Prim.Native.Nat.{◌-◌}
 use Rattle.limits.specs.Limits.{level_count}
 use Rattle.forms.specs.Forms.{level_at}
-use Rattle.forms.proofs.Finding.{Weighing, weigh-start, weigh-found, weigh-turn, weigh-end}
-use borrow.Author.Rules.{rules}
+use Rattle.forms.proofs.Finding.{Weighing}
 use Rattle.forms.proofs.probing.weighs.Given as goal
 
 abbrev pub invariant-loop-l : goal.invariant-loop-l

@@ -1,0 +1,24 @@
+-- `passes::expansion`: each turn replaces the highest definition that is called, so that the next is below it.
+use mathlib.Core.Path.{◌≡◌}
+use borrow.Author.Rules.{rules}
+use lib.ListN.{length}
+use Rattle.store.specs.Store.{held}
+use Rattle.templates.specs.Taking.{work_bytes}
+use Rattle.expanding.proofs.Looping.{Going, going_end, going_on, going-short, going_start}
+use Rattle.expanding.proofs.passes.expansion.Goals as goal
+
+pub loop-k-init : goal.loop-k-init
+loop-k-init c = (search (rules, going_start), search rules, search rules)
+
+pub loop-k-preserved : goal.loop-k-preserved
+loop-k-preserved c = (
+      going_on _ _ _ _ _ _ _ _ _ _ _ c.loop-k.invariant.0 c.loop-k-test.true _ _ c.replace_calls-r.ensures c.if-r.true (search rules) _ c.highest_call-c.ensures _ c.lesser-k.ensures,
+      search rules,
+      search rules,
+    )
+
+pub returns-else-r : goal.returns-else-r
+returns-else-r c = search (rules, going-short)
+
+pub returns : goal.returns
+returns c = search (rules, going_end)

@@ -1,0 +1,6 @@
+use Rattle.queries.proofs.Asking.{alike-answered}
+use borrow.Author.Rules.{rules}
+use Rattle.queries.proofs.alike.Goals as goal
+
+pub returns : goal.returns
+returns c = search alike-answered

@@ -1,0 +1,6 @@
+use Rattle.queries.proofs.Asking.{body-answered}
+use borrow.Author.Rules.{rules}
+use Rattle.queries.proofs.body.Goals as goal
+
+pub returns : goal.returns
+returns c = search body-answered

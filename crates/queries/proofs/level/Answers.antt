@@ -1,0 +1,6 @@
+use Rattle.queries.proofs.Asking.{level-answered}
+use borrow.Author.Rules.{rules}
+use Rattle.queries.proofs.level.Goals as goal
+
+pub returns : goal.returns
+returns c = search level-answered

@@ -1,0 +1,6 @@
+use Rattle.queries.proofs.Asking.{ask-wrong-size}
+use borrow.Author.Rules.{rules}
+use Rattle.queries.proofs.refuse_size.Goals as goal
+
+pub returns : goal.returns
+returns c = search ask-wrong-size
