@@ -13,7 +13,7 @@ use lib.Dec.{T, ltb, ltb→lt, eqb, eqb→eq}
 use lib.ListN.{get_or, length}
 use Rattle.theory.specs.Level.{Row, row, row_binder}
 use Rattle.theory.specs.Lists.{map_option}
-use Rattle.rows.specs.Rows.{column, arity_number, arity_of, binder_number, binder_of, row_count}
+use Rattle.rows.specs.Rows.{arity_number, arity_of, binder_number, binder_of, row_count}
 use Rattle.rows.specs.Numbers.{kept_rows, arity_in, binder_in, form_size, kind_of, kind_size, word_of, word_of_row, number_of, row_number}
 use Rattle.rows.proofs.Columns.{no_row, both_left, both_right, below, below_at}
 

@@ -1,7 +1,7 @@
 -- A region read, a region written, and the regions that a write leaves as they are. No law asks for the length of the array.
 use mathlib.Core.List.{List, ◌∷◌}
 use mathlib.Core.Path.{◌∙◌, ◌≡◌, ap, refl, sym}
-use lib.ListN.{get_or-eq_default, drop, get_or, length, length-take, replicate, set, take}
+use lib.ListN.{get_or-eq_default, drop, get_or, length-take, replicate, set, take}
 use lib.Seq.{drop-set-add, drop-set-lt, get_or-drop, get_or-take, take-set-le, take-set-lt}
 use native.Mathlib.Omega.{arith}
 use Prim.Native.Nat.{◌+◌, ◌-◌, ◌<◌, ◌≤◌, suc, zero, ℕ}

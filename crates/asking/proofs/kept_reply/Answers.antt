@@ -1,6 +1,5 @@
 -- `kept_reply`: 9 before 10.
 use Rattle.asking.proofs.Causes.{reply-miscounted, reply-right, reply-unknown}
-use borrow.Author.Rules.{rules}
 use Rattle.asking.proofs.kept_reply.Goals as goal
 
 pub returns-then-w : goal.returns-then-w

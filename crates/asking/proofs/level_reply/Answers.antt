@@ -1,6 +1,5 @@
 -- `level_reply`: 17, or the reply in the module found.
 use Rattle.asking.proofs.Replies.{reply-no-module, reply-there}
-use borrow.Author.Rules.{rules}
 use Rattle.asking.proofs.level_reply.Goals as goal
 
 pub returns-then-c-q : goal.returns-then-c-q

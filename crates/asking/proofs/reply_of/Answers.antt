@@ -1,6 +1,5 @@
 -- `reply_of`: by where the walk ended.
 use Rattle.asking.proofs.Causes.{reply-kept, reply-left-over, reply-limit}
-use borrow.Author.Rules.{rules}
 use Rattle.asking.proofs.reply_of.Goals as goal
 
 pub returns-then-w-expr : goal.returns-then-w-expr

@@ -1,6 +1,5 @@
 use borrow.Author.Rules.{rules}
 use Prim.Native.Nat.{◌-◌}
-use Rattle.call_table.specs.Walking.{Putting}
 use Rattle.call_table.proofs.Ending.{places_same, putting-end, putting-failed, putting-on, putting-start}
 use Rattle.call_table.proofs.Noting.{sized_same}
 use Rattle.call_table.proofs.Passing.{unfailed}

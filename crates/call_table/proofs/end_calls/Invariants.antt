@@ -1,8 +1,4 @@
-use borrow.Author.Rules.{rules}
 use Rattle.call_table.specs.Walking.{Ending}
-use Rattle.call_table.proofs.Ending.{ending-end, ending-failed, ending-on, ending-start}
-use Rattle.call_table.proofs.Noting.{sized_same}
-use Rattle.call_table.proofs.Passing.{unfailed}
 use Rattle.call_table.proofs.end_calls.Given as goal
 
 abbrev pub invariant-loop-r : goal.invariant-loop-r

@@ -1,6 +1,4 @@
-use Prim.Native.Nat.{◌+◌, ◌-◌, ◌≤◌}
-use lib.ListN.{length}
-use Rattle.call_table.specs.Walking.{Noting}
+use Prim.Native.Nat.{◌-◌}
 use Rattle.call_table.proofs.Noting.{noting-all, noting-end, noting-few, noting-on, noting-start, sized_same}
 use borrow.Author.Rules.{rules}
 use Rattle.call_table.proofs.note_calls.Goals as goal

@@ -1,8 +1,6 @@
 use Prim.Native.Nat.{◌+◌, ◌-◌, ◌≤◌}
 use lib.ListN.{length}
 use Rattle.call_table.specs.Walking.{Noting}
-use Rattle.call_table.proofs.Noting.{noting-all, noting-end, noting-few, noting-on, noting-start, sized_same}
-use borrow.Author.Rules.{rules}
 use Rattle.call_table.proofs.note_calls.Given as goal
 
 abbrev pub invariant-loop-i : goal.invariant-loop-i

@@ -1,6 +1,4 @@
 use Prim.Native.Nat.{◌-◌}
-use lib.ListN.{length}
-use Rattle.call_table.specs.Walking.{Walking}
 use Rattle.call_table.proofs.Passing.{not_done, unfailed, walking-done, walking-failed, walking-less, walking_on, walking-over, walking_start}
 use borrow.Author.Rules.{rules}
 use Rattle.call_table.proofs.term_end.Goals as goal

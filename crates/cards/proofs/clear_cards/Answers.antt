@@ -1,8 +1,6 @@
-use mathlib.Core.Path.{◌≡◌, refl}
+use mathlib.Core.Path.{refl}
 use Prim.Native.Nat.{◌-◌}
-use lib.ListN.{length}
-use Rattle.limits.specs.Limits.{card_memory_bytes}
-use Rattle.cards.proofs.Cards.{Cleared, clear-start, clear-turn, clear_whole}
+use Rattle.cards.proofs.Cards.{clear-start, clear-turn, clear_whole}
 use borrow.Author.Rules.{rules}
 use Rattle.cards.proofs.clear_cards.Goals as goal
 

@@ -1,9 +1,8 @@
-use mathlib.Core.Path.{◌≡◌, refl}
+use mathlib.Core.Path.{◌≡◌}
 use Prim.Native.Nat.{◌-◌}
 use lib.ListN.{length}
 use Rattle.limits.specs.Limits.{card_memory_bytes}
-use Rattle.cards.proofs.Cards.{Cleared, clear-start, clear-turn, clear_whole}
-use borrow.Author.Rules.{rules}
+use Rattle.cards.proofs.Cards.{Cleared}
 use Rattle.cards.proofs.clear_cards.Given as goal
 
 abbrev pub invariant-loop-i : goal.invariant-loop-i

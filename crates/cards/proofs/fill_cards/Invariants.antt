@@ -1,11 +1,9 @@
-use mathlib.Core.Path.{◌≡◌, refl}
+use mathlib.Core.Path.{◌≡◌}
 use Prim.Native.Nat.{◌-◌, ◌≤◌}
 use lib.ListN.{length}
 use Rattle.rules.specs.Run.{overwrite}
 use Rattle.cards.specs.Cards.{cards_of}
-use Rattle.cards.proofs.Cards.{card-turn, cards-done}
 use Rattle.store.specs.Store.{held}
-use borrow.Author.Rules.{rules}
 use Rattle.cards.proofs.fill_cards.Given as goal
 
 abbrev pub invariant-loop-g : goal.invariant-loop-g

@@ -1,6 +1,5 @@
 use Rattle.cells.proofs.Cells.{sized}
 use borrow.Author.Rules.{rules}
-use Rattle.cells.proofs.layout_of.Lts as lts
 use Rattle.cells.proofs.layout_of.Goals as goal
 
 -- src/lib.rt:76:1

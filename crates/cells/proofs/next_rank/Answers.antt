@@ -1,6 +1,5 @@
 use Rattle.cells.proofs.Cells.{next-full, next-no, next-yes}
 use borrow.Author.Rules.{rules}
-use Rattle.cells.proofs.next_rank.Lts as lts
 use Rattle.cells.proofs.next_rank.Goals as goal
 
 -- src/lib.rt:106:13

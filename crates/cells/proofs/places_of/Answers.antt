@@ -1,7 +1,5 @@
 use Prim.Native.Nat.{◌-◌}
-use borrow.Author.Rules.{rules}
-use Rattle.symbols.specs.Spell.{max_params}
-use Rattle.cells.proofs.Cells.{Counted, counted-all, counted-few, counted_none, counted-turn, counted-zero}
+use Rattle.cells.proofs.Cells.{counted-all, counted-few, counted_none, counted-turn, counted-zero}
 use Rattle.cells.proofs.places_of.Goals as goal
 
 pub loop-k-init : goal.loop-k-init

@@ -1,7 +1,6 @@
 use Prim.Native.Nat.{◌-◌}
-use borrow.Author.Rules.{rules}
 use Rattle.symbols.specs.Spell.{max_params}
-use Rattle.cells.proofs.Cells.{Counted, counted-all, counted-few, counted_none, counted-turn, counted-zero}
+use Rattle.cells.proofs.Cells.{Counted}
 use Rattle.cells.proofs.places_of.Given as goal
 
 abbrev pub invariant-loop-k : goal.invariant-loop-k

@@ -1,8 +1,6 @@
 use lib.ListN.{length-set}
 use native.Mathlib.Omega.{arith}
 use Rattle.strings.proofs.Cases.{four-stores}
-use borrow.Author.Rules.{rules}
-use Rattle.cells.proofs.put_word.Lts as lts
 use Rattle.cells.proofs.put_word.Goals as goal
 
 -- src/lib.rt:42:5

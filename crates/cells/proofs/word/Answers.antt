@@ -1,6 +1,5 @@
 use Rattle.cells.specs.Words.{word_at}
 use borrow.Author.Rules.{rules}
-use Rattle.cells.proofs.word.Lts as lts
 use Rattle.cells.proofs.word.Goals as goal
 
 -- src/lib.rt:28:1

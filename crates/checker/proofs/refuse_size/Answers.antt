@@ -1,5 +1,4 @@
 use Rattle.checker.proofs.Answers.{check-wrong-size}
-use borrow.Author.Rules.{rules}
 use Rattle.checker.proofs.refuse_size.Goals as goal
 
 pub returns : goal.returns

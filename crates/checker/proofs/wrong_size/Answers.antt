@@ -1,5 +1,4 @@
 use Rattle.checker.proofs.Answers.{empty-wrong, some_size}
-use borrow.Author.Rules.{rules}
 use Rattle.checker.proofs.wrong_size.Goals as goal
 
 pub returns-then-file-eq0 : goal.returns-then-file-eq0

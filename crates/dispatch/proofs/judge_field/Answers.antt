@@ -1,6 +1,5 @@
 use Rattle.fields.specs.declared.Parts.TheVariants.{Assume, Theorem}
 use Rattle.dispatch.proofs.Judges.{by-any-file, by-any-length, by-cut, by_end, by-end-of-file, by-extends, by-module, by_parts, declaration-asks, definition-asks, end-of-asks, extends-asks, formula-asks, instance-asks, module-asks}
-use borrow.Author.Rules.{rules}
 use Rattle.dispatch.proofs.judge_field.Goals as goal
 
 pub module_field-requires : goal.module_field-requires

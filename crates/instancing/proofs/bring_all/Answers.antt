@@ -1,12 +1,5 @@
-use Prim.Native.Nat.{◌+◌, ◌-◌, ◌≤◌}
-use lib.ListN.{get_or}
-use mathlib.Core.Path.{◌≡◌}
-use Rattle.context.specs.Parts.{part}
-use Rattle.store.specs.Store.{context_slot, held, order_slot}
+use Prim.Native.Nat.{◌-◌}
 use Rattle.instancing.proofs.Brings.{bring-done, bring-turn, context_room, order_room}
-use Rattle.instancing.specs.Bringing.{bring_all}
-use Rattle.limits.specs.Limits.{max_definitions}
-use Rattle.limits.specs.Sizes.{context_length}
 use borrow.Author.Rules.{rules}
 use Rattle.instancing.proofs.bring_all.Goals as goal
 

@@ -1,5 +1,4 @@
 use Rattle.judge_plain.proofs.Answers.{early-begun, early-inside, early-outside}
-use borrow.Author.Rules.{rules}
 use Rattle.judge_plain.proofs.out_of_order.Goals as goal
 
 pub returns-in-Outside : goal.returns-in-Outside

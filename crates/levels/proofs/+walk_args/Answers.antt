@@ -1,8 +1,5 @@
-use Prim.Native.Nat.{◌+◌, ◌*◌}
-use Rattle.levels.proofs.Walking.{Going, inherit, going_end, going-fits, going-inside, going-leaf, going-low, going_on, going_start, stop-limit, stop-token}
-use Rattle.levels.specs.Tables.{names_of}
+use Rattle.levels.proofs.Walking.{going_end, going-fits, going-inside, going-leaf, going-low, going_on, going_start, stop-limit, stop-token}
 use borrow.Author.Rules.{rules}
-use Prim.Native.Nat.{ℕ, ◌<◌}
 use Rattle.levels.proofs.+walk_args.Goals as goal
 
 pub loop-k-init : goal.loop-k-init

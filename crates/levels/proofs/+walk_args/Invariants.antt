@@ -1,8 +1,6 @@
 use Prim.Native.Nat.{◌+◌, ◌*◌}
-use Rattle.levels.proofs.Walking.{Going, inherit, going_end, going-fits, going-inside, going-leaf, going-low, going_on, going_start, stop-limit, stop-token}
+use Rattle.levels.proofs.Walking.{Going, inherit}
 use Rattle.levels.specs.Tables.{names_of}
-use borrow.Author.Rules.{rules}
-use Prim.Native.Nat.{ℕ, ◌<◌}
 use Rattle.levels.proofs.+walk_args.Given as goal
 
 abbrev pub decreases-walk_args : goal.decreases-walk_args

@@ -1,5 +1,4 @@
 use Rattle.levels.proofs.Heads.{name-stepped}
-use borrow.Author.Rules.{rules}
 use Rattle.levels.proofs.name_step.Goals as goal
 
 pub returns : goal.returns

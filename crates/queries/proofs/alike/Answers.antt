@@ -1,5 +1,4 @@
 use Rattle.queries.proofs.Asking.{alike-answered}
-use borrow.Author.Rules.{rules}
 use Rattle.queries.proofs.alike.Goals as goal
 
 pub returns : goal.returns

@@ -1,5 +1,4 @@
 use Rattle.queries.proofs.Outcomes.{is-alike, no-alike}
-use borrow.Author.Rules.{rules}
 use Rattle.queries.proofs.as_alike.Goals as goal
 
 pub returns-in-Compared : goal.returns-in-Compared

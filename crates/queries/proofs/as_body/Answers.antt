@@ -1,5 +1,4 @@
 use Rattle.queries.proofs.Outcomes.{is_body, no_body}
-use borrow.Author.Rules.{rules}
 use Rattle.queries.proofs.as_body.Goals as goal
 
 pub returns-in-Located : goal.returns-in-Located

@@ -1,5 +1,4 @@
 use Rattle.queries.proofs.Outcomes.{is-level, no-level}
-use borrow.Author.Rules.{rules}
 use Rattle.queries.proofs.as_level.Goals as goal
 
 pub returns-in-Levelled : goal.returns-in-Levelled

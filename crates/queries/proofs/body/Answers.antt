@@ -1,5 +1,4 @@
 use Rattle.queries.proofs.Asking.{body-answered}
-use borrow.Author.Rules.{rules}
 use Rattle.queries.proofs.body.Goals as goal
 
 pub returns : goal.returns

@@ -1,5 +1,4 @@
 use Rattle.queries.proofs.Asking.{level-answered}
-use borrow.Author.Rules.{rules}
 use Rattle.queries.proofs.level.Goals as goal
 
 pub returns : goal.returns

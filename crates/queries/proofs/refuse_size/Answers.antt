@@ -1,5 +1,4 @@
 use Rattle.queries.proofs.Asking.{ask-wrong-size}
-use borrow.Author.Rules.{rules}
 use Rattle.queries.proofs.refuse_size.Goals as goal
 
 pub returns : goal.returns

@@ -1,7 +1,6 @@
 use Rattle.store.specs.Store.{held}
 use Rattle.query_strings.proofs.Reading.{in-module}
 use mathlib.Core.Path.{refl}
-use borrow.Author.Rules.{rules}
 use Rattle.query_strings.proofs.query_string.Goals as goal
 
 pub returns-then-expr-lt-BYTES : goal.returns-then-expr-lt-BYTES

@@ -1,6 +1,4 @@
 use Rattle.replacing.proofs.Rounding.{round-first}
-use borrow.Author.Rules.{rules}
-use Rattle.replacing.proofs.first_round.Lts as lts
 use Rattle.replacing.proofs.first_round.Goals as goal
 
 -- src/lib.rt:211:1

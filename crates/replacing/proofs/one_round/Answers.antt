@@ -1,7 +1,6 @@
 use Rattle.replacing.proofs.Rounding.{round-none, round-ran}
 use Rattle.replacing.proofs.Running.{sized_same}
 use borrow.Author.Rules.{rules}
-use Rattle.replacing.proofs.one_round.Lts as lts
 use Rattle.replacing.proofs.one_round.Goals as goal
 
 -- src/lib.rt:181:9

@@ -1,7 +1,6 @@
 use Rattle.replacing.proofs.Rounding.{noted-lost, noted-ran}
 use Rattle.replacing.proofs.Running.{sized_same}
 use borrow.Author.Rules.{rules}
-use Rattle.replacing.proofs.replace_noted.Lts as lts
 use Rattle.replacing.proofs.replace_noted.Goals as goal
 
 -- src/lib.rt:146:9

@@ -1,6 +1,5 @@
 use Rattle.replacing.proofs.Rounding.{rewritten-small}
 use borrow.Author.Rules.{rules}
-use Rattle.replacing.proofs.rewrite_with.Lts as lts
 use Rattle.replacing.proofs.rewrite_with.Goals as goal
 
 -- src/lib.rt:365:5

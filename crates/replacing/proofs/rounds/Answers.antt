@@ -1,10 +1,6 @@
-use mathlib.Core.Path.{◌≡◌}
 use Prim.Native.Nat.{◌-◌}
-use lib.ListN.{length}
 use borrow.Author.Rules.{rules}
 use Rattle.replacing.proofs.Rounding.{rounds-end, rounds-on, rounds-slow, rounds-start}
-use Rattle.replacing.specs.Round.{Rounding}
-use Rattle.replacing.proofs.rounds.Lts as lts
 use Rattle.replacing.proofs.rounds.Goals as goal
 
 -- src/lib.rt:289:5

@@ -1,10 +1,7 @@
 use mathlib.Core.Path.{◌≡◌}
 use Prim.Native.Nat.{◌-◌}
 use lib.ListN.{length}
-use borrow.Author.Rules.{rules}
-use Rattle.replacing.proofs.Rounding.{rounds-end, rounds-on, rounds-slow, rounds-start}
 use Rattle.replacing.specs.Round.{Rounding}
-use Rattle.replacing.proofs.rounds.Lts as lts
 use Rattle.replacing.proofs.rounds.Given as goal
 
 abbrev pub invariant-loop-turns : goal.invariant-loop-turns

@@ -1,8 +1,6 @@
 use Prim.Native.Nat.{◌-◌}
 use borrow.Author.Rules.{rules}
 use Rattle.replacing.proofs.Running.{run-finished, run-lost, run_short, running-on, running-start, sized_same}
-use Rattle.replacing.specs.Round.{Running}
-use Rattle.replacing.proofs.run.Lts as lts
 use Rattle.replacing.proofs.run.Goals as goal
 
 -- src/lib.rt:93:5

@@ -1,8 +1,5 @@
 use Prim.Native.Nat.{◌-◌}
-use borrow.Author.Rules.{rules}
-use Rattle.replacing.proofs.Running.{run-finished, run-lost, run_short, running-on, running-start, sized_same}
 use Rattle.replacing.specs.Round.{Running}
-use Rattle.replacing.proofs.run.Lts as lts
 use Rattle.replacing.proofs.run.Given as goal
 
 abbrev pub invariant-loop-turns : goal.invariant-loop-turns

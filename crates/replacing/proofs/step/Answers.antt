@@ -1,5 +1,4 @@
 use Rattle.replacing.proofs.Running.{here_in, inside-in}
-use borrow.Author.Rules.{rules}
 use Rattle.replacing.proofs.step.Goals as goal
 
 pub returns-then-s : goal.returns-then-s

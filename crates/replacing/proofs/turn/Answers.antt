@@ -1,6 +1,4 @@
 use Rattle.replacing.proofs.Rounding.{turn-done, turn_more, turn-short, turn-slow}
-use borrow.Author.Rules.{rules}
-use Rattle.replacing.proofs.turn.Lts as lts
 use Rattle.replacing.proofs.turn.Goals as goal
 
 -- src/lib.rt:242:9

@@ -1,7 +1,6 @@
 use Prim.Native.Nat.{◌-◌}
-use borrow.Author.Rules.{rules}
 use Rattle.symbols.specs.Spell.{max_params}
-use Rattle.rewriting.proofs.Bounding.{Bounding, bounding-end, bounding-here, bounding-long, bounding-next, bounding-start, bounding-turn}
+use Rattle.rewriting.proofs.Bounding.{Bounding}
 use Rattle.rewriting.proofs.arguments.Given as goal
 
 abbrev pub invariant-loop-i : goal.invariant-loop-i

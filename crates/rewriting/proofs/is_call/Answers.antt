@@ -1,5 +1,4 @@
 use Rattle.rewriting.proofs.Cases.{same_number}
-use borrow.Author.Rules.{rules}
 use Rattle.rewriting.proofs.is_call.Goals as goal
 
 pub returns-in-Call : goal.returns-in-Call

@@ -1,5 +1,4 @@
 use Rattle.rewriting.proofs.Cases.{rewrite-done}
-use borrow.Author.Rules.{rules}
 use Rattle.rewriting.proofs.rewrite.Goals as goal
 
 pub returns : goal.returns

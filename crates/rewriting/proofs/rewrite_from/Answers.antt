@@ -1,8 +1,5 @@
 use Rattle.rewriting.proofs.Cases.{turn_end, turn-less, turn_on, turn-over, turn-start}
-use Rattle.rewriting.specs.Going.{Turning}
 use Prim.Native.Nat.{◌-◌}
-use lib.ListN.{length}
-use borrow.Author.Rules.{rules}
 use Rattle.rewriting.proofs.rewrite_from.Goals as goal
 
 pub loop-p-init : goal.loop-p-init

@@ -1,8 +1,6 @@
-use Rattle.rewriting.proofs.Cases.{turn_end, turn-less, turn_on, turn-over, turn-start}
 use Rattle.rewriting.specs.Going.{Turning}
 use Prim.Native.Nat.{◌-◌}
 use lib.ListN.{length}
-use borrow.Author.Rules.{rules}
 use Rattle.rewriting.proofs.rewrite_from.Given as goal
 
 abbrev pub invariant-loop-p : goal.invariant-loop-p

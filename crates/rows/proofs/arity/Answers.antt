@@ -1,4 +1,3 @@
-use borrow.Author.Rules.{rules}
 use Rattle.rows.proofs.Numbers.{row-arity}
 use Rattle.rows.proofs.arity.Goals as goal
 

@@ -1,5 +1,4 @@
 -- the runs one after another are the column, which antt computes
-use borrow.Author.Rules.{rules}
 use Rattle.theory.specs.Level.{row}
 use Rattle.rows.specs.Rows.{arity_of, arity_column}
 use Rattle.rows.proofs.arity_column.Goals as goal

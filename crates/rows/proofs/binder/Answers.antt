@@ -1,4 +1,3 @@
-use borrow.Author.Rules.{rules}
 use Rattle.rows.proofs.Numbers.{row-binder}
 use Rattle.rows.proofs.binder.Goals as goal
 

@@ -1,11 +1,9 @@
 -- the array is the list of rows that are kept, which antt computes
 use mathlib.Core.Path.{refl}
-use Prim.Native.Nat.{◌-◌, ◌≤◌}
 use borrow.Author.Rules.{rules}
-use lib.ListN.{get_or}
 use Rattle.theory.specs.Level.{row}
-use Rattle.rows.specs.Numbers.{kept_rows, row_number}
-use Rattle.rows.proofs.Filling.{Filling, start, inside, turn, whole}
+use Rattle.rows.specs.Numbers.{row_number}
+use Rattle.rows.proofs.Filling.{start, inside, turn, whole}
 use Rattle.rows.proofs.copy_rows.Goals as goal
 
 pub loop-i-init : goal.loop-i-init

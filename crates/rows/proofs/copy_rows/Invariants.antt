@@ -1,10 +1,7 @@
-use mathlib.Core.Path.{refl}
 use Prim.Native.Nat.{◌-◌, ◌≤◌}
-use borrow.Author.Rules.{rules}
 use lib.ListN.{get_or}
-use Rattle.theory.specs.Level.{row}
-use Rattle.rows.specs.Numbers.{kept_rows, row_number}
-use Rattle.rows.proofs.Filling.{Filling, start, inside, turn, whole}
+use Rattle.rows.specs.Numbers.{kept_rows}
+use Rattle.rows.proofs.Filling.{Filling}
 use Rattle.rows.proofs.copy_rows.Given as goal
 
 abbrev pub invariant-loop-i : goal.invariant-loop-i

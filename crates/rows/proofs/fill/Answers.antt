@@ -1,7 +1,5 @@
-use Prim.Native.Nat.{◌-◌, ◌≤◌}
 use borrow.Author.Rules.{rules}
-use lib.ListN.{length}
-use Rattle.rows.proofs.Filling.{Filling, start, inside, turn, whole}
+use Rattle.rows.proofs.Filling.{start, inside, turn, whole}
 use Rattle.rows.proofs.fill.Goals as goal
 
 pub loop-i-init : goal.loop-i-init

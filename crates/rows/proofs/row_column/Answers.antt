@@ -1,5 +1,4 @@
 -- the runs and the kept rows one after another are the column, which antt computes
-use borrow.Author.Rules.{rules}
 use Rattle.theory.specs.Level.{row}
 use Rattle.rows.specs.Numbers.{row_column, row_number}
 use Rattle.rows.proofs.row_column.Goals as goal

@@ -1,12 +1,8 @@
 -- `skim_args`, which calls itself where an argument that others follow has arguments: the nesting falls.
-use Prim.Native.Nat.{◌+◌, ◌-◌, ◌*◌, suc}
+use Prim.Native.Nat.{◌-◌}
 use native.Mathlib.Omega.{arith}
-use Rattle.limits.specs.Limits.{max_arity}
-use Rattle.context.specs.Parts.{part}
-use Rattle.store.specs.Store.{held}
-use Rattle.skimming.proofs.Walking.{Going, going-below, going_end, going-inside, going-leaf, going-low, going_on, going_start, going-within, stop-inside, stop-limit, stop-token}
+use Rattle.skimming.proofs.Walking.{going-below, going_end, going-inside, going-leaf, going-low, going_on, going_start, going-within, stop-inside, stop-limit, stop-token}
 use borrow.Author.Rules.{rules}
-use Prim.Native.Nat.{ℕ, ◌<◌}
 use Rattle.skimming.proofs.+skim_args.Goals as goal
 
 pub loop-k-init : goal.loop-k-init

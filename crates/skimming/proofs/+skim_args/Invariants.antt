@@ -1,11 +1,8 @@
 use Prim.Native.Nat.{◌+◌, ◌-◌, ◌*◌, suc}
-use native.Mathlib.Omega.{arith}
 use Rattle.limits.specs.Limits.{max_arity}
 use Rattle.context.specs.Parts.{part}
 use Rattle.store.specs.Store.{held}
-use Rattle.skimming.proofs.Walking.{Going, going-below, going_end, going-inside, going-leaf, going-low, going_on, going_start, going-within, stop-inside, stop-limit, stop-token}
-use borrow.Author.Rules.{rules}
-use Prim.Native.Nat.{ℕ, ◌<◌}
+use Rattle.skimming.proofs.Walking.{Going}
 use Rattle.skimming.proofs.+skim_args.Given as goal
 
 abbrev pub decreases-skim_args : goal.decreases-skim_args

@@ -1,7 +1,6 @@
 -- `any_step`: no token, too many arguments, or a token that keeps the limits.
 use Rattle.tokens.proofs.Places.{fits}
 use Rattle.skimming.proofs.Walking.{step_count, step-nothing, step-token}
-use borrow.Author.Rules.{rules}
 use Rattle.skimming.proofs.any_step.Goals as goal
 
 pub returns-then-k : goal.returns-then-k

@@ -1,6 +1,5 @@
 -- `bind`: one more bound variable, or none.
 use Rattle.skimming.proofs.Walking.{in-binder, in-plain}
-use borrow.Author.Rules.{rules}
 use Rattle.skimming.proofs.bind.Goals as goal
 
 pub returns-then-binder_of-eq0 : goal.returns-then-binder_of-eq0

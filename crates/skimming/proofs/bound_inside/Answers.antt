@@ -1,6 +1,5 @@
 -- `bound_inside`: only a built-in binds.
 use Rattle.skimming.proofs.Walking.{in-bound, in-built-in, in-instance, in-literal, in-name, in-no-token, in-parameter}
-use borrow.Author.Rules.{rules}
 use Rattle.skimming.proofs.bound_inside.Goals as goal
 
 pub returns-in-Parameter : goal.returns-in-Parameter

@@ -1,6 +1,5 @@
 -- `head`: what the name means, and the causes.
 use Rattle.skimming.proofs.Walking.{heads}
-use borrow.Author.Rules.{rules}
 use Rattle.skimming.proofs.head.Goals as goal
 
 pub returns : goal.returns

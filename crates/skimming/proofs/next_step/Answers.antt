@@ -1,6 +1,5 @@
 -- `next_step`: a parameter, a code that is none, a built-in, or another token.
 use Rattle.skimming.proofs.Walking.{step-code, step-no-code, step-parameter}
-use borrow.Author.Rules.{rules}
 use Rattle.skimming.proofs.next_step.Goals as goal
 
 pub returns-then-tag-eq0 : goal.returns-then-tag-eq0

@@ -1,6 +1,5 @@
 -- `skim_expr`: one argument.
 use Rattle.skimming.proofs.Walking.{one-alone}
-use borrow.Author.Rules.{rules}
 use Rattle.skimming.proofs.skim_expr.Goals as goal
 
 pub returns : goal.returns

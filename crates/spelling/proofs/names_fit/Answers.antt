@@ -1,6 +1,5 @@
 use mathlib.Core.Path.{subst}
 use Rattle.spelling.specs.Strings.{NumbersFit}
-use borrow.Author.Rules.{rules}
 use Rattle.spelling.proofs.names_fit.Goals as goal
 
 pub returns : goal.returns

@@ -1,6 +1,5 @@
 use borrow.Author.Tests.{le-ltb, lt-ltb}
 use borrow.Author.Rules.{rules}
-use Rattle.streaming.proofs.close_one.Lts as lts
 use Rattle.streaming.proofs.close_one.Goals as goal
 
 -- src/lib.rt:43:9

@@ -1,5 +1,4 @@
 use Rattle.strings.proofs.Cases.{called-arm}
-use borrow.Author.Rules.{rules}
 use Rattle.strings.proofs.definition_called.Goals as goal
 
 pub returns-in-Call : goal.returns-in-Call

@@ -1,5 +1,4 @@
 use Rattle.strings.proofs.Cases.{called-no, called-yes}
-use borrow.Author.Rules.{rules}
 use Rattle.strings.proofs.definition_number.Goals as goal
 
 pub returns-then-n-lt-DEFINITIONS : goal.returns-then-n-lt-DEFINITIONS

@@ -1,10 +1,4 @@
-use Prim.Native.Nat.{◌+◌, ◌-◌, ◌≤◌, min}
-use mathlib.Core.Path.{◌≡◌}
-use lib.ListN.{length}
-use Rattle.symbols.specs.Symbol.{fill}
-use Rattle.strings.specs.Laid.{arguments_at}
-use Rattle.strings.specs.Read.{string_at}
-use Rattle.strings.proofs.Laying.{ToLay, left-start}
+use Rattle.strings.proofs.Laying.{left-start}
 use Rattle.strings.proofs.Filling.{filled-end, filled-no, filled-turn}
 use borrow.Author.Rules.{rules}
 use Rattle.strings.proofs.fill_in.Goals as goal

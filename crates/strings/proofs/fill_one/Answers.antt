@@ -1,5 +1,4 @@
 use Rattle.strings.proofs.Filling.{fill-begin, fill-call, fill-code, fill_end, fill-name, fill-number, fill-par, fill-var}
-use borrow.Author.Rules.{rules}
 use Rattle.strings.proofs.fill_one.Goals as goal
 
 pub returns-in-Par : goal.returns-in-Par

@@ -1,5 +1,4 @@
 use Rattle.strings.proofs.Cases.{index-high, index-low}
-use borrow.Author.Rules.{rules}
 use Rattle.strings.proofs.index_bit.Goals as goal
 
 pub returns-then-j : goal.returns-then-j

@@ -1,5 +1,4 @@
 use Rattle.strings.proofs.Cases.{free-wide, own-narrow}
-use borrow.Author.Rules.{rules}
 use Rattle.strings.proofs.index_wide.Goals as goal
 
 pub returns-then-i-c : goal.returns-then-i-c

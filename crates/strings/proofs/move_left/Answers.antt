@@ -1,7 +1,4 @@
-use Prim.Native.Nat.{◌-◌, ◌≤◌}
-use mathlib.Core.Path.{◌≡◌}
-use lib.ListN.{drop, length}
-use lib.Seq.{paste, paste-zero}
+use lib.Seq.{paste-zero}
 use Rattle.strings.proofs.Copying.{shift-end, shift-turn}
 use borrow.Author.Rules.{rules}
 use Rattle.strings.proofs.move_left.Goals as goal

@@ -1,9 +1,7 @@
 use Prim.Native.Nat.{◌-◌, ◌≤◌}
 use mathlib.Core.Path.{◌≡◌}
 use lib.ListN.{drop, length}
-use lib.Seq.{paste, paste-zero}
-use Rattle.strings.proofs.Copying.{shift-end, shift-turn}
-use borrow.Author.Rules.{rules}
+use lib.Seq.{paste}
 use Rattle.strings.proofs.move_left.Given as goal
 
 abbrev pub invariant-loop-i : goal.invariant-loop-i

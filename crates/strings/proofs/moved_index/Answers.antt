@@ -1,5 +1,4 @@
 use Rattle.strings.proofs.Cases.{free-fits, free-index, own-index}
-use borrow.Author.Rules.{rules}
 use Rattle.strings.proofs.moved_index.Goals as goal
 
 pub overflow_cast-result : goal.overflow_cast-result

@@ -1,5 +1,4 @@
 use Rattle.strings.proofs.Cases.{wide-var}
-use borrow.Author.Rules.{rules}
 use Rattle.strings.proofs.moves_wide.Goals as goal
 
 pub returns-in-Var : goal.returns-in-Var

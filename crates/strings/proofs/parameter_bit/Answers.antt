@@ -1,5 +1,4 @@
 use Rattle.strings.proofs.Cases.{bit-par}
-use borrow.Author.Rules.{rules}
 use Rattle.strings.proofs.parameter_bit.Goals as goal
 
 pub returns-in-Par : goal.returns-in-Par

@@ -1,8 +1,3 @@
-use Prim.Native.Nat.{◌+◌, ◌-◌, ◌*◌, ◌≤◌, max, min}
-use mathlib.Core.Path.{◌≡◌}
-use lib.ListN.{length}
-use Rattle.symbols.specs.Pieces.{scan}
-use Rattle.strings.specs.Read.{shape_in, string_at}
 use Rattle.strings.proofs.Turns.{piece-done, piece-end, piece-turn}
 use borrow.Author.Rules.{rules}
 use Rattle.strings.proofs.piece_end.Goals as goal

@@ -3,8 +3,6 @@ use mathlib.Core.Path.{◌≡◌}
 use lib.ListN.{length}
 use Rattle.symbols.specs.Pieces.{scan}
 use Rattle.strings.specs.Read.{shape_in, string_at}
-use Rattle.strings.proofs.Turns.{piece-done, piece-end, piece-turn}
-use borrow.Author.Rules.{rules}
 use Rattle.strings.proofs.piece_end.Given as goal
 
 abbrev pub invariant-loop-i : goal.invariant-loop-i

@@ -1,7 +1,4 @@
-use Prim.Native.Nat.{◌-◌, ◌≤◌}
-use mathlib.Core.Path.{◌≡◌}
-use lib.ListN.{length}
-use lib.Seq.{paste, paste-zero}
+use lib.Seq.{paste-zero}
 use Rattle.strings.proofs.Copying.{copy-end, copy-turn}
 use borrow.Author.Rules.{rules}
 use Rattle.strings.proofs.place.Goals as goal

@@ -1,5 +1,4 @@
 use Rattle.strings.proofs.Cases.{near_call, put-begin, put-call, put-code, put-end, put-name, put-number, put-par, put-var, room-begin, room-call, room-code, room-end, room-name, room-number, room-par, room-var}
-use borrow.Author.Rules.{rules}
 use Rattle.strings.proofs.put.Goals as goal
 
 pub put2-requires : goal.put2-requires

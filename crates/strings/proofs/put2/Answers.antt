@@ -1,5 +1,4 @@
 use Rattle.strings.proofs.Cases.{two-stores}
-use borrow.Author.Rules.{rules}
 use Rattle.strings.proofs.put2.Goals as goal
 
 pub returns : goal.returns

@@ -1,7 +1,6 @@
 use lib.ListN.{length-set}
 use native.Mathlib.Omega.{arith}
 use Rattle.strings.proofs.Cases.{three-stores}
-use borrow.Author.Rules.{rules}
 use Rattle.strings.proofs.put3.Goals as goal
 
 pub bounds-out-q-2 : goal.bounds-out-q-2

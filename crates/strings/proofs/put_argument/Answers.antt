@@ -1,5 +1,4 @@
 use Rattle.strings.proofs.Filling.{argument-none, argument-put}
-use borrow.Author.Rules.{rules}
 use Rattle.strings.proofs.put_argument.Goals as goal
 
 pub returns-then-j-lt-PARAMS : goal.returns-then-j-lt-PARAMS

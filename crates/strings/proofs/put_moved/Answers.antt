@@ -1,9 +1,4 @@
-use Prim.Native.Nat.{◌+◌, ◌-◌, ◌≤◌, max, min}
-use mathlib.Core.Path.{◌≡◌}
-use lib.ListN.{length}
-use Rattle.symbols.specs.Symbol.{move}
-use Rattle.strings.specs.Read.{string_at}
-use Rattle.strings.proofs.Laying.{ToLay, left-start}
+use Rattle.strings.proofs.Laying.{left-start}
 use Rattle.strings.proofs.Filling.{moved-end, moved-near, moved-room, moved-short, moved-turn, moved-wide, not_wide}
 use borrow.Author.Rules.{rules}
 use Rattle.strings.proofs.put_moved.Goals as goal

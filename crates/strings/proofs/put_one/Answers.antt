@@ -1,5 +1,4 @@
 use Rattle.strings.proofs.Filling.{one-put, one-short}
-use borrow.Author.Rules.{rules}
 use Rattle.strings.proofs.put_one.Goals as goal
 
 pub returns-then-out-q : goal.returns-then-out-q

@@ -1,9 +1,3 @@
-use Prim.Native.Nat.{◌+◌, ◌-◌, ◌≤◌, min}
-use mathlib.Core.Path.{◌≡◌}
-use lib.ListN.{length}
-use lib.Seq.{sets}
-use Rattle.symbols.specs.Symbol.{strip}
-use Rattle.strings.specs.Read.{string_at}
 use Rattle.strings.proofs.Turns.{strip-end, strip-turn, stripped-room, stripped-turn}
 use borrow.Author.Rules.{rules}
 use Rattle.strings.proofs.put_strip.Goals as goal

@@ -4,8 +4,6 @@ use lib.ListN.{length}
 use lib.Seq.{sets}
 use Rattle.symbols.specs.Symbol.{strip}
 use Rattle.strings.specs.Read.{string_at}
-use Rattle.strings.proofs.Turns.{strip-end, strip-turn, stripped-room, stripped-turn}
-use borrow.Author.Rules.{rules}
 use Rattle.strings.proofs.put_strip.Given as goal
 
 abbrev pub invariant-loop-i : goal.invariant-loop-i

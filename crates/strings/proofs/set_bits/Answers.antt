@@ -1,5 +1,5 @@
 use borrow.Author.Rules.{rules}
-use Rattle.strings.proofs.Cases.{Counted, counted-all, counted-few, counted-fits, counted_none, counted-turn}
+use Rattle.strings.proofs.Cases.{counted-all, counted-few, counted-fits, counted_none, counted-turn}
 use Rattle.strings.proofs.set_bits.Goals as goal
 
 pub loop-rest-init : goal.loop-rest-init

@@ -1,5 +1,4 @@
-use borrow.Author.Rules.{rules}
-use Rattle.strings.proofs.Cases.{Counted, counted-all, counted-few, counted-fits, counted_none, counted-turn}
+use Rattle.strings.proofs.Cases.{Counted}
 use Rattle.strings.proofs.set_bits.Given as goal
 
 abbrev pub invariant-loop-rest : goal.invariant-loop-rest

@@ -1,5 +1,4 @@
 use Rattle.strings.proofs.Turns.{shape-bits, shape-sole}
-use borrow.Author.Rules.{rules}
 use Rattle.strings.proofs.shape_of.Goals as goal
 
 pub returns-then-p-eq0 : goal.returns-then-p-eq0

@@ -1,8 +1,3 @@
-use Prim.Native.Nat.{◌+◌, ◌-◌, ◌≤◌, min}
-use mathlib.Core.Path.{◌≡◌}
-use lib.ListN.{length}
-use Rattle.symbols.specs.Symbol.{strip}
-use Rattle.strings.specs.Read.{string_at}
 use Rattle.strings.proofs.Turns.{strip-within, stripped-end, stripped-turn}
 use borrow.Author.Rules.{rules}
 use Rattle.strings.proofs.stripped_length.Goals as goal

@@ -3,8 +3,6 @@ use mathlib.Core.Path.{◌≡◌}
 use lib.ListN.{length}
 use Rattle.symbols.specs.Symbol.{strip}
 use Rattle.strings.specs.Read.{string_at}
-use Rattle.strings.proofs.Turns.{strip-within, stripped-end, stripped-turn}
-use borrow.Author.Rules.{rules}
 use Rattle.strings.proofs.stripped_length.Given as goal
 
 abbrev pub invariant-loop-i : goal.invariant-loop-i

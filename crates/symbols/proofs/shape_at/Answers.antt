@@ -1,6 +1,5 @@
 use mathlib.Core.Path.{sym}
 use lib.ListN.{get_or-eq_default}
-use borrow.Author.Rules.{rules}
 use Rattle.symbols.proofs.shape_at.Goals as goal
 
 pub returns-else-n-shapes : goal.returns-else-n-shapes

@@ -1,8 +1,5 @@
-use Prim.Native.Nat.{◌+◌, ◌*◌}
 use Rattle.tokens.proofs.Places.{fits}
 use Rattle.tokens.proofs.Limiting.{args_end, args-next, args-passed, expr-deep, expr-cut, expr-over, expr-args}
-use borrow.Author.Rules.{rules}
-use Prim.Native.Nat.{ℕ, ◌<◌}
 use Rattle.tokens.proofs.+read_args_read_expr.Goals as goal
 
 pub read_args-returns-then-left-eq0 : goal.read_args-returns-then-left-eq0

@@ -1,8 +1,4 @@
 use Prim.Native.Nat.{◌+◌, ◌*◌}
-use Rattle.tokens.proofs.Places.{fits}
-use Rattle.tokens.proofs.Limiting.{args_end, args-next, args-passed, expr-deep, expr-cut, expr-over, expr-args}
-use borrow.Author.Rules.{rules}
-use Prim.Native.Nat.{ℕ, ◌<◌}
 use Rattle.tokens.proofs.+read_args_read_expr.Given as goal
 
 abbrev pub decreases-read_args : goal.decreases-read_args

@@ -1,4 +1,3 @@
-use borrow.Author.Rules.{rules}
 use Rattle.tokens.proofs.arguments.Goals as goal
 
 pub returns-in-BuiltIn : goal.returns-in-BuiltIn

@@ -1,5 +1,4 @@
 use Rattle.tokens.proofs.Shaping.{code-shows}
-use borrow.Author.Rules.{rules}
 use Rattle.tokens.proofs.built_in_shape.Goals as goal
 
 pub returns : goal.returns

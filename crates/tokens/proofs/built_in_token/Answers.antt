@@ -1,6 +1,5 @@
 use mathlib.Core.Path.{sym, ◌∙◌}
 use borrow.Author.Tests.{eq-eqb, ne_eqb}
-use borrow.Author.Rules.{rules}
 use Rattle.tokens.proofs.built_in_token.Goals as goal
 
 pub returns-then-arity-eq-NO_CODE : goal.returns-then-arity-eq-NO_CODE

@@ -1,5 +1,4 @@
 use Rattle.tokens.proofs.Shaping.{instance-shows}
-use borrow.Author.Rules.{rules}
 use Rattle.tokens.proofs.instance_shape.Goals as goal
 
 pub returns : goal.returns

@@ -4,7 +4,6 @@ use Prim.Native.Nat.{ℕ, ◌+◌, ◌≤◌}
 use native.Mathlib.Omega.{arith}
 use lib.ListN.{length, get_or-eq_default}
 use Rattle.tokens.specs.Token.{number_at}
-use borrow.Author.Rules.{rules}
 use Rattle.tokens.proofs.number_at.Goals as goal
 
 past-zero : (s : List ℕ) (i : ℕ) → length s ≤ i → 0 ≡ number_at s i

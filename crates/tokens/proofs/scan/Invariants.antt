@@ -2,9 +2,7 @@ use mathlib.Core.Path.{◌≡◌}
 use Prim.Native.Nat.{◌-◌, ◌≤◌}
 use lib.ListN.{length}
 use Rattle.tokens.specs.Expr.{whole_of}
-use Rattle.tokens.proofs.Shaping.{shape-within, shape-fits, shape-less}
-use Rattle.tokens.proofs.Scanning.{whole_from, start, turn, unknown, cut, overdue, ended}
-use borrow.Author.Rules.{rules}
+use Rattle.tokens.proofs.Scanning.{whole_from}
 use Rattle.tokens.proofs.scan.Given as goal
 
 abbrev pub invariant-loop-due : goal.invariant-loop-due

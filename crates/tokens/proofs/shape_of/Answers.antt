@@ -1,5 +1,4 @@
 use Rattle.tokens.proofs.Shaping.{tag-0, tag-1, tag-2, tag-3, tag-4, tag-5, tag-other}
-use borrow.Author.Rules.{rules}
 use Rattle.tokens.proofs.shape_of.Goals as goal
 
 pub returns-in-0 : goal.returns-in-0

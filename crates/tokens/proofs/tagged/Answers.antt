@@ -6,7 +6,6 @@ use Rattle.tokens.specs.Token.{tagged_at, number_at, built_in, named, instanced}
 use Rattle.tokens.specs.declared.Token.{Token}
 use Rattle.tokens.specs.declared.Token.TheVariants.{Parameter, Bound, Literal, NoToken}
 use borrow.Author.Tests.{ne_eqb}
-use borrow.Author.Rules.{rules}
 use Rattle.tokens.proofs.tagged.Goals as goal
 
 -- an arm for each tag: search finds the premises among the facts of the place, so that no path is written

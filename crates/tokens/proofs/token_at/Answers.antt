@@ -7,7 +7,6 @@ use borrow.Author.Tests.{le-leb, lt-leb}
 use Rattle.tokens.specs.Token.{token_at, tagged_at, width_of, fitting}
 use Rattle.tokens.specs.declared.Token.{Token}
 use Rattle.tokens.specs.declared.Token.TheVariants.{NoToken}
-use borrow.Author.Rules.{rules}
 use Rattle.tokens.proofs.token_at.Goals as goal
 
 fits : (s : List ℕ) (at w : ℕ) (t : Token) → t ≡ tagged_at s at (get_or s at 0) → w ≡ width_of t → at < length s → w ≤ length s - at → t ≡ token_at s at

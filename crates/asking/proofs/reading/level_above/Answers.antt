@@ -1,9 +1,7 @@
 -- `reading::level_above`: what is left to look at decides.
-use mathlib.Core.Path.{◌≡◌, refl}
+use mathlib.Core.Path.{refl}
 use Prim.Native.Nat.{◌-◌}
-use lib.ListN.{length}
-use Rattle.asking.proofs.Levels.{above-found, above-next, above-none, above_from}
-use borrow.Author.Rules.{rules}
+use Rattle.asking.proofs.Levels.{above-found, above-next, above-none}
 use Rattle.asking.proofs.reading.level_above.Goals as goal
 
 pub loop-i-init : goal.loop-i-init

@@ -1,8 +1,7 @@
-use mathlib.Core.Path.{◌≡◌, refl}
+use mathlib.Core.Path.{◌≡◌}
 use Prim.Native.Nat.{◌-◌}
 use lib.ListN.{length}
-use Rattle.asking.proofs.Levels.{above-found, above-next, above-none, above_from}
-use borrow.Author.Rules.{rules}
+use Rattle.asking.proofs.Levels.{above_from}
 use Rattle.asking.proofs.reading.level_above.Given as goal
 
 abbrev pub invariant-loop-i : goal.invariant-loop-i

@@ -1,6 +1,5 @@
 -- `reading::levels_cause`: 3 before 5.
 use Rattle.asking.proofs.Causes.{cause-arity, cause-level, cause-none}
-use borrow.Author.Rules.{rules}
 use Rattle.asking.proofs.reading.levels_cause.Goals as goal
 
 pub returns-then-level_above : goal.returns-then-level_above

@@ -1,6 +1,5 @@
 -- `reading::limit_cause`: whether the bytes are one expression.
 use Rattle.asking.proofs.Causes.{limit-bytes, limit-whole}
-use borrow.Author.Rules.{rules}
 use Rattle.asking.proofs.reading.limit_cause.Goals as goal
 
 pub returns-then-whole : goal.returns-then-whole

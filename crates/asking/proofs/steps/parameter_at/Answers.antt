@@ -1,7 +1,6 @@
 -- `steps::parameter_at`: a parameter, known or not.
 use mathlib.Core.Path.{refl}
 use Rattle.asking.proofs.Stepping.{parameter-at}
-use borrow.Author.Rules.{rules}
 use Rattle.asking.proofs.steps.parameter_at.Goals as goal
 
 pub returns : goal.returns

@@ -1,12 +1,8 @@
 -- The walk over arguments: its invariant is that of skimming and that of the walk over a text.
 use native.Mathlib.Omega.{arith}
-use Prim.Native.Nat.{◌+◌, ◌-◌, ◌*◌, suc}
-use Rattle.limits.specs.Limits.{max_arity}
-use Rattle.context.specs.Parts.{part}
-use Rattle.store.specs.Store.{held}
-use Rattle.asking.proofs.Walking.{Going, going-bits, going-bound, going_end, going-inside, going-leaf, going_on, going-roomy, going_start, stop-inside, stop-limit, stop-token}
+use Prim.Native.Nat.{◌-◌}
+use Rattle.asking.proofs.Walking.{going-bits, going-bound, going_end, going-inside, going-leaf, going_on, going-roomy, going_start, stop-inside, stop-limit, stop-token}
 use borrow.Author.Rules.{rules}
-use Prim.Native.Nat.{ℕ, ◌<◌}
 use Rattle.asking.proofs.walk.+walk_args.Goals as goal
 
 pub loop-k-init : goal.loop-k-init

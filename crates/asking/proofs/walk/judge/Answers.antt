@@ -1,6 +1,5 @@
 -- `walk::judge`: the codes of the module, by place.
 use Rattle.asking.proofs.Serving.{in-module}
-use borrow.Author.Rules.{rules}
 use Rattle.asking.proofs.walk.judge.Goals as goal
 
 pub returns-then-s-lt-BYTES : goal.returns-then-s-lt-BYTES

@@ -1,10 +1,7 @@
-use mathlib.Core.Path.{◌∙◌, sym}
-use native.Mathlib.Omega.{arith}
 use Prim.Native.Nat.{◌-◌}
 use Rattle.unfolding.specs.CalleeTerm.{max_links}
-use Rattle.callees.proofs.Going.{Upto, goes-fits, goes-room, upto-start, upto_turn, upto-whole}
+use Rattle.callees.proofs.Going.{Upto}
 use Rattle.store.specs.Store.{held}
-use borrow.Author.Rules.{rules}
 use Rattle.callees.proofs.chain.enter_chain.Given as goal
 
 abbrev pub invariant-loop-numbers : goal.invariant-loop-numbers

@@ -1,7 +1,6 @@
 -- `chain::read_row`.
 use mathlib.Core.Path.{◌∙◌}
 use Rattle.callees.proofs.Rowing.{row-between}
-use borrow.Author.Rules.{rules}
 use Rattle.callees.proofs.chain.read_row.Goals as goal
 
 pub returns : goal.returns

@@ -1,6 +1,5 @@
 -- `chain::start_chain`.
 use Rattle.callees.proofs.Going.{chain-started}
-use borrow.Author.Rules.{rules}
 use Rattle.callees.proofs.chain.start_chain.Goals as goal
 
 pub returns : goal.returns

@@ -1,7 +1,6 @@
 -- `strings::own_string`.
 use Rattle.callees.proofs.Rowing.{row-between}
 use Rattle.callees.proofs.Telling.{own-string}
-use borrow.Author.Rules.{rules}
 use Rattle.callees.proofs.strings.own_string.Goals as goal
 
 pub returns : goal.returns

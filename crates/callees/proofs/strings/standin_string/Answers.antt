@@ -1,7 +1,6 @@
 -- `strings::standin_string`.
 use Rattle.callees.proofs.Rowing.{row-between}
 use Rattle.callees.proofs.Telling.{standin-string}
-use borrow.Author.Rules.{rules}
 use Rattle.callees.proofs.strings.standin_string.Goals as goal
 
 pub returns : goal.returns

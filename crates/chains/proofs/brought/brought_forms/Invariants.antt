@@ -1,7 +1,6 @@
 use Prim.Native.Nat.{◌-◌}
-use Rattle.chains.proofs.Bringing.{Brings, brings-start, brings-turn, brings-whole}
+use Rattle.chains.proofs.Bringing.{Brings}
 use Rattle.store.specs.Store.{held}
-use borrow.Author.Rules.{rules}
 use Rattle.chains.proofs.brought.brought_forms.Given as goal
 
 abbrev pub invariant-loop-i : goal.invariant-loop-i

@@ -1,8 +1,7 @@
 -- `copying`: the first j numbers are copied.
 use native.Mathlib.Omega.{arith}
-use Prim.Native.Nat.{◌+◌, ◌-◌}
-use Rattle.limits.specs.Limits.{max_declarations, max_definitions}
-use Rattle.chains.proofs.Copies.{CopiedTo, copied-start, copied-turn, copied-whole}
+use Prim.Native.Nat.{◌-◌}
+use Rattle.chains.proofs.Copies.{copied-start, copied-turn, copied-whole}
 use borrow.Author.Rules.{rules}
 use Rattle.chains.proofs.copying.copy_forms.Goals as goal
 

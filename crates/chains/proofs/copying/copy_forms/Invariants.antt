@@ -1,8 +1,6 @@
-use native.Mathlib.Omega.{arith}
 use Prim.Native.Nat.{◌+◌, ◌-◌}
 use Rattle.limits.specs.Limits.{max_declarations, max_definitions}
-use Rattle.chains.proofs.Copies.{CopiedTo, copied-start, copied-turn, copied-whole}
-use borrow.Author.Rules.{rules}
+use Rattle.chains.proofs.Copies.{CopiedTo}
 use Rattle.chains.proofs.copying.copy_forms.Given as goal
 
 abbrev pub invariant-loop-j : goal.invariant-loop-j

@@ -1,7 +1,6 @@
 -- `copying::number_all`: the first j numbers are themselves.
 use Prim.Native.Nat.{◌-◌}
-use Rattle.limits.specs.Limits.{max_definitions}
-use Rattle.chains.proofs.Copies.{NumberedTo, numbered-start, numbered-turn, numbered-whole}
+use Rattle.chains.proofs.Copies.{numbered-start, numbered-turn, numbered-whole}
 use borrow.Author.Rules.{rules}
 use Rattle.chains.proofs.copying.number_all.Goals as goal
 

@@ -1,7 +1,6 @@
 use Prim.Native.Nat.{◌-◌}
 use Rattle.limits.specs.Limits.{max_definitions}
-use Rattle.chains.proofs.Copies.{NumberedTo, numbered-start, numbered-turn, numbered-whole}
-use borrow.Author.Rules.{rules}
+use Rattle.chains.proofs.Copies.{NumberedTo}
 use Rattle.chains.proofs.copying.number_all.Given as goal
 
 abbrev pub invariant-loop-j : goal.invariant-loop-j

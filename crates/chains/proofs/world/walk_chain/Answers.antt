@@ -1,7 +1,6 @@
 -- `world::walk_chain`: the tables show the world of the instances met so far.
 use mathlib.Core.Path.{◌∙◌, sym}
-use Rattle.chains.proofs.Along.{Along, along-start, along-turn, along-whole, step_less}
-use Rattle.store.specs.Store.{held}
+use Rattle.chains.proofs.Along.{along-start, along-turn, along-whole, step_less}
 use borrow.Author.Rules.{rules}
 use Rattle.chains.proofs.world.walk_chain.Goals as goal
 

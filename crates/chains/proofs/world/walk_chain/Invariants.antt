@@ -1,7 +1,5 @@
-use mathlib.Core.Path.{◌∙◌, sym}
-use Rattle.chains.proofs.Along.{Along, along-start, along-turn, along-whole, step_less}
+use Rattle.chains.proofs.Along.{Along}
 use Rattle.store.specs.Store.{held}
-use borrow.Author.Rules.{rules}
 use Rattle.chains.proofs.world.walk_chain.Given as goal
 
 abbrev pub invariant-loop-numbers : goal.invariant-loop-numbers

@@ -1,5 +1,4 @@
 use Rattle.checker.proofs.Replies.{reply-begun, reply-inside, reply-outside}
-use borrow.Author.Rules.{rules}
 use Rattle.checker.proofs.judging.end_reply.Goals as goal
 
 pub returns-in-Outside : goal.returns-in-Outside

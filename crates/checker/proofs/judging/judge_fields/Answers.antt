@@ -1,10 +1,5 @@
 use Prim.Native.Nat.{◌-◌}
-use lib.ListN.{length}
-use Rattle.fields.specs.Cursor.{place_of}
-use Rattle.checker.specs.Settles.{Midway}
 use Rattle.checker.proofs.Rounds.{begins, goes_on, less, settled}
-use Rattle.store.specs.Store.{held}
-use borrow.Author.Rules.{rules}
 use Rattle.checker.proofs.judging.judge_fields.Goals as goal
 
 pub loop-reply-init : goal.loop-reply-init

@@ -2,9 +2,7 @@ use Prim.Native.Nat.{◌-◌}
 use lib.ListN.{length}
 use Rattle.fields.specs.Cursor.{place_of}
 use Rattle.checker.specs.Settles.{Midway}
-use Rattle.checker.proofs.Rounds.{begins, goes_on, less, settled}
 use Rattle.store.specs.Store.{held}
-use borrow.Author.Rules.{rules}
 use Rattle.checker.proofs.judging.judge_fields.Given as goal
 
 abbrev pub invariant-loop-reply : goal.invariant-loop-reply

@@ -1,6 +1,5 @@
 use mathlib.Core.Path.{◌∙◌, sym}
 use Rattle.checker.proofs.Turns.{asks, turned, turned-cut, turned-end}
-use borrow.Author.Rules.{rules}
 use Rattle.checker.proofs.judging.judge_next.Goals as goal
 
 pub returns-then-is_end : goal.returns-then-is_end

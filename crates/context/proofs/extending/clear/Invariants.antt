@@ -1,9 +1,6 @@
 use Prim.Native.Nat.{◌-◌, ◌≤◌}
 use lib.ListN.{length, replicate, take}
-use mathlib.Core.Path.{◌≡◌, refl}
-use native.Mathlib.Omega.{arith}
-use Rattle.context.proofs.Joins.{clear-done, clear-turn}
-use borrow.Author.Rules.{rules}
+use mathlib.Core.Path.{◌≡◌}
 use Rattle.context.proofs.extending.clear.Given as goal
 
 abbrev pub invariant-loop-i : goal.invariant-loop-i

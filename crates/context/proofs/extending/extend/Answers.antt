@@ -1,5 +1,4 @@
 use Rattle.context.proofs.Joins.{both-joined, order-ready}
-use borrow.Author.Rules.{rules}
 use Rattle.context.proofs.extending.extend.Goals as goal
 
 pub extend_order-requires : goal.extend_order-requires

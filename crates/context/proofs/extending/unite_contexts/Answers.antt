@@ -1,9 +1,7 @@
 use Prim.Native.Nat.{◌-◌}
-use mathlib.Core.Path.{◌≡◌, refl}
+use mathlib.Core.Path.{refl}
 use native.Mathlib.Omega.{arith}
-use Rattle.context.proofs.Joins.{Uniting, contexts-frames, uniting-done, uniting-room, uniting-size, uniting-small, uniting-start, uniting-turn}
-use Rattle.store.specs.Store.{held}
-use Rattle.store.specs.Updates.{with_contexts}
+use Rattle.context.proofs.Joins.{contexts-frames, uniting-done, uniting-room, uniting-size, uniting-small, uniting-start, uniting-turn}
 use borrow.Author.Rules.{rules}
 use Rattle.context.proofs.extending.unite_contexts.Goals as goal
 

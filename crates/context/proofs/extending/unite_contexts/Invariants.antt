@@ -1,10 +1,8 @@
 use Prim.Native.Nat.{◌-◌}
-use mathlib.Core.Path.{◌≡◌, refl}
-use native.Mathlib.Omega.{arith}
-use Rattle.context.proofs.Joins.{Uniting, contexts-frames, uniting-done, uniting-room, uniting-size, uniting-small, uniting-start, uniting-turn}
+use mathlib.Core.Path.{◌≡◌}
+use Rattle.context.proofs.Joins.{Uniting}
 use Rattle.store.specs.Store.{held}
 use Rattle.store.specs.Updates.{with_contexts}
-use borrow.Author.Rules.{rules}
 use Rattle.context.proofs.extending.unite_contexts.Given as goal
 
 abbrev pub invariant-loop-i : goal.invariant-loop-i

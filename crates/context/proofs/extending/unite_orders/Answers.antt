@@ -1,9 +1,7 @@
 use Prim.Native.Nat.{◌-◌}
-use mathlib.Core.Path.{◌≡◌, refl}
+use mathlib.Core.Path.{refl}
 use native.Mathlib.Omega.{arith}
-use Rattle.context.proofs.Joins.{Uniting, orders-frames, uniting-done, uniting-room, uniting-size, uniting-small, uniting-start, uniting-turn}
-use Rattle.store.specs.Store.{held}
-use Rattle.store.specs.Updates.{with_orders}
+use Rattle.context.proofs.Joins.{orders-frames, uniting-done, uniting-room, uniting-size, uniting-small, uniting-start, uniting-turn}
 use borrow.Author.Rules.{rules}
 use Rattle.context.proofs.extending.unite_orders.Goals as goal
 

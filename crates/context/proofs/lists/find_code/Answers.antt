@@ -1,10 +1,6 @@
 use Prim.Native.Nat.{◌-◌}
-use mathlib.Core.Path.{◌≡◌, refl}
+use mathlib.Core.Path.{refl}
 use Rattle.context.proofs.Search.{code-end, code-hit, code-next}
-use Rattle.context.specs.Lookup.{code_named}
-use Rattle.context.specs.Parts.{part}
-use Rattle.store.specs.Store.{held}
-use borrow.Author.Rules.{rules}
 use Rattle.context.proofs.lists.find_code.Goals as goal
 
 pub loop-i-init : goal.loop-i-init

@@ -1,10 +1,8 @@
 use Prim.Native.Nat.{◌-◌}
-use mathlib.Core.Path.{◌≡◌, refl}
-use Rattle.context.proofs.Search.{code-end, code-hit, code-next}
+use mathlib.Core.Path.{◌≡◌}
 use Rattle.context.specs.Lookup.{code_named}
 use Rattle.context.specs.Parts.{part}
 use Rattle.store.specs.Store.{held}
-use borrow.Author.Rules.{rules}
 use Rattle.context.proofs.lists.find_code.Given as goal
 
 abbrev pub invariant-loop-i : goal.invariant-loop-i

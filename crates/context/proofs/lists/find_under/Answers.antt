@@ -1,10 +1,6 @@
 use Prim.Native.Nat.{◌-◌}
-use mathlib.Core.Path.{◌≡◌, refl}
+use mathlib.Core.Path.{refl}
 use Rattle.context.proofs.Search.{under-end, under-hit, under_next}
-use Rattle.context.specs.Lookup.{code_under}
-use Rattle.theory.specs.Lists.{numbers_from}
-use Rattle.store.specs.Store.{held}
-use borrow.Author.Rules.{rules}
 use Rattle.context.proofs.lists.find_under.Goals as goal
 
 pub loop-i-init : goal.loop-i-init

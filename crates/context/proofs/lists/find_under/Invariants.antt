@@ -1,10 +1,8 @@
 use Prim.Native.Nat.{◌-◌}
-use mathlib.Core.Path.{◌≡◌, refl}
-use Rattle.context.proofs.Search.{under-end, under-hit, under_next}
+use mathlib.Core.Path.{◌≡◌}
 use Rattle.context.specs.Lookup.{code_under}
 use Rattle.theory.specs.Lists.{numbers_from}
 use Rattle.store.specs.Store.{held}
-use borrow.Author.Rules.{rules}
 use Rattle.context.proofs.lists.find_under.Given as goal
 
 abbrev pub invariant-loop-i : goal.invariant-loop-i

@@ -1,5 +1,4 @@
 use Rattle.context.proofs.Parts.{past}
-use borrow.Author.Rules.{rules}
 use Rattle.context.proofs.lists.number_at.Goals as goal
 
 pub returns-else-i-xs : goal.returns-else-i-xs

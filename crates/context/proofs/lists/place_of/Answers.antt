@@ -1,9 +1,6 @@
-use Rattle.store.specs.Store.{held}
-use Prim.Native.Nat.{◌+◌, ◌-◌}
-use mathlib.Core.Path.{◌≡◌, refl}
+use Prim.Native.Nat.{◌-◌}
+use mathlib.Core.Path.{refl}
 use Rattle.context.proofs.Search.{place_end, place-hit, place-next}
-use Rattle.context.specs.Parts.{part, place_of}
-use borrow.Author.Rules.{rules}
 use Rattle.context.proofs.lists.place_of.Goals as goal
 
 pub loop-i-init : goal.loop-i-init

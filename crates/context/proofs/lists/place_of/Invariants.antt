@@ -1,9 +1,7 @@
 use Rattle.store.specs.Store.{held}
 use Prim.Native.Nat.{◌+◌, ◌-◌}
-use mathlib.Core.Path.{◌≡◌, refl}
-use Rattle.context.proofs.Search.{place_end, place-hit, place-next}
+use mathlib.Core.Path.{◌≡◌}
 use Rattle.context.specs.Parts.{part, place_of}
-use borrow.Author.Rules.{rules}
 use Rattle.context.proofs.lists.place_of.Given as goal
 
 abbrev pub invariant-loop-i : goal.invariant-loop-i

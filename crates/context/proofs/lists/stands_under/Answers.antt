@@ -1,5 +1,4 @@
 use Rattle.context.proofs.Answers.{under-another, under-it}
-use borrow.Author.Rules.{rules}
 use Rattle.context.proofs.lists.stands_under.Goals as goal
 
 pub returns-then-instance-fact_at : goal.returns-then-instance-fact_at

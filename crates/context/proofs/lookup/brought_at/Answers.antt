@@ -1,5 +1,4 @@
 use Rattle.context.proofs.Answers.{at-instance, not-brought, not-instance}
-use borrow.Author.Rules.{rules}
 use Rattle.context.proofs.lookup.brought_at.Goals as goal
 
 pub returns-then-c-lt-DEFINITIONS : goal.returns-then-c-lt-DEFINITIONS

@@ -1,5 +1,4 @@
 use Rattle.context.proofs.Answers.{name-declared, name-undeclared}
-use borrow.Author.Rules.{rules}
 use Rattle.context.proofs.lookup.declares_name.Goals as goal
 
 pub returns-then-is_declared : goal.returns-then-is_declared

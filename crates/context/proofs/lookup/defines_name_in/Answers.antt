@@ -1,5 +1,4 @@
 use Rattle.context.proofs.Answers.{defined-nowhere, defined-there, no-definition}
-use borrow.Author.Rules.{rules}
 use Rattle.context.proofs.lookup.defines_name_in.Goals as goal
 
 pub returns-then-g-ge-DEFINITIONS : goal.returns-then-g-ge-DEFINITIONS

@@ -1,11 +1,9 @@
 use Prim.Native.Nat.{◌-◌}
-use mathlib.Core.Path.{◌≡◌, refl}
-use Rattle.context.proofs.Search.{definition-end, definition-hit, definition-next}
+use mathlib.Core.Path.{◌≡◌}
 use Rattle.context.specs.Lookup.{definition_among}
 use Rattle.context.specs.Parts.{part}
 use Rattle.context.specs.Entries.{context_codes}
 use Rattle.store.specs.Store.{held}
-use borrow.Author.Rules.{rules}
 use Rattle.context.proofs.lookup.definition_among.Given as goal
 
 abbrev pub invariant-loop-i : goal.invariant-loop-i

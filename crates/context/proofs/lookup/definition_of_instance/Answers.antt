@@ -1,5 +1,4 @@
 use Rattle.context.proofs.Answers.{between}
-use borrow.Author.Rules.{rules}
 use Rattle.context.proofs.lookup.definition_of_instance.Goals as goal
 
 pub returns : goal.returns

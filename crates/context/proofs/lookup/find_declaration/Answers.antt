@@ -1,10 +1,6 @@
 use Prim.Native.Nat.{◌-◌}
-use mathlib.Core.Path.{◌≡◌, refl}
+use mathlib.Core.Path.{refl}
 use Rattle.context.proofs.Search.{declared-end, declared-hit, declared-next}
-use Rattle.context.specs.Lookup.{declared_named}
-use Rattle.context.specs.Parts.{part}
-use Rattle.store.specs.Store.{held}
-use borrow.Author.Rules.{rules}
 use Rattle.context.proofs.lookup.find_declaration.Goals as goal
 
 pub loop-i-init : goal.loop-i-init

@@ -1,10 +1,8 @@
 use Prim.Native.Nat.{◌-◌}
-use mathlib.Core.Path.{◌≡◌, refl}
-use Rattle.context.proofs.Search.{declared-end, declared-hit, declared-next}
+use mathlib.Core.Path.{◌≡◌}
 use Rattle.context.specs.Lookup.{declared_named}
 use Rattle.context.specs.Parts.{part}
 use Rattle.store.specs.Store.{held}
-use borrow.Author.Rules.{rules}
 use Rattle.context.proofs.lookup.find_declaration.Given as goal
 
 abbrev pub invariant-loop-i : goal.invariant-loop-i

@@ -1,5 +1,4 @@
 use Rattle.context.proofs.Answers.{entry_found}
-use borrow.Author.Rules.{rules}
 use Rattle.context.proofs.lookup.find_entry.Goals as goal
 
 pub returns : goal.returns

@@ -1,5 +1,4 @@
 use Rattle.context.proofs.Answers.{as-brought, no-brought}
-use borrow.Author.Rules.{rules}
 use Rattle.context.proofs.lookup.find_instance.Goals as goal
 
 pub returns-in-At : goal.returns-in-At

@@ -1,5 +1,4 @@
 use Rattle.context.proofs.Answers.{module-found}
-use borrow.Author.Rules.{rules}
 use Rattle.context.proofs.lookup.find_module.Goals as goal
 
 pub returns : goal.returns

@@ -1,5 +1,4 @@
 use Rattle.context.proofs.Answers.{instance-there}
-use borrow.Author.Rules.{rules}
 use Rattle.context.proofs.lookup.has_named_instance.Goals as goal
 
 pub returns : goal.returns

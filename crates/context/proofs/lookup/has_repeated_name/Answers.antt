@@ -1,5 +1,4 @@
 use Rattle.context.proofs.Answers.{repeated-there}
-use borrow.Author.Rules.{rules}
 use Rattle.context.proofs.lookup.has_repeated_name.Goals as goal
 
 pub returns : goal.returns

@@ -1,10 +1,6 @@
 use Prim.Native.Nat.{◌-◌}
-use mathlib.Core.Path.{◌≡◌, refl}
+use mathlib.Core.Path.{refl}
 use Rattle.context.proofs.Search.{instance-end, instance-hit, instance-next}
-use Rattle.context.specs.Lookup.{instance_among}
-use Rattle.context.specs.Parts.{part}
-use Rattle.store.specs.Store.{held}
-use borrow.Author.Rules.{rules}
 use Rattle.context.proofs.lookup.instance_among.Goals as goal
 
 pub loop-i-init : goal.loop-i-init

@@ -1,5 +1,4 @@
 use Rattle.context.proofs.Answers.{definition-undeclared, field-declared}
-use borrow.Author.Rules.{rules}
 use Rattle.context.proofs.lookup.is_declared.Goals as goal
 
 pub returns-then-c-lt-DEFINITIONS : goal.returns-then-c-lt-DEFINITIONS

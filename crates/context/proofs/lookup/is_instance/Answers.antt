@@ -1,5 +1,4 @@
 use Rattle.context.proofs.Answers.{definition-no-instance, field-instance}
-use borrow.Author.Rules.{rules}
 use Rattle.context.proofs.lookup.is_instance.Goals as goal
 
 pub returns-then-c-lt-DEFINITIONS : goal.returns-then-c-lt-DEFINITIONS

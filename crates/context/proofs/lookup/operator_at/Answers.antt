@@ -1,5 +1,4 @@
 use Rattle.context.proofs.Answers.{at_constant, at-defined, at_other, at-variable}
-use borrow.Author.Rules.{rules}
 use Rattle.context.proofs.lookup.operator_at.Goals as goal
 
 pub returns-then-c-lt-DEFINITIONS : goal.returns-then-c-lt-DEFINITIONS

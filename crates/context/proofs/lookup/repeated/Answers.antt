@@ -1,11 +1,7 @@
 use Prim.Native.Nat.{◌-◌}
-use mathlib.Core.Path.{◌≡◌, refl}
+use mathlib.Core.Path.{refl}
 use native.Mathlib.Omega.{arith}
 use Rattle.context.proofs.Repeats.{again, never-again, not-again}
-use Rattle.context.specs.Lookup.{repeated_in}
-use Rattle.context.specs.Parts.{part}
-use Rattle.store.specs.Store.{held}
-use borrow.Author.Rules.{rules}
 use Rattle.context.proofs.lookup.repeated.Goals as goal
 
 pub loop-i-init : goal.loop-i-init

@@ -1,11 +1,8 @@
 use Prim.Native.Nat.{◌-◌}
-use mathlib.Core.Path.{◌≡◌, refl}
-use native.Mathlib.Omega.{arith}
-use Rattle.context.proofs.Repeats.{again, never-again, not-again}
+use mathlib.Core.Path.{◌≡◌}
 use Rattle.context.specs.Lookup.{repeated_in}
 use Rattle.context.specs.Parts.{part}
 use Rattle.store.specs.Store.{held}
-use borrow.Author.Rules.{rules}
 use Rattle.context.proofs.lookup.repeated.Given as goal
 
 abbrev pub invariant-loop-i : goal.invariant-loop-i

@@ -1,6 +1,5 @@
 -- `numbering::enter_number`: what was read is stored.
 use Rattle.entering.proofs.Entering.{set_at}
-use borrow.Author.Rules.{rules}
 use Rattle.entering.proofs.numbering.enter_number.Goals as goal
 
 pub returns : goal.returns

@@ -1,6 +1,5 @@
 -- `numbering::enter_numbers`: the names from i on have their numbers.
-use Rattle.entering.proofs.Entering.{Entering, entering-start, entering-turn, entering-whole}
-use Rattle.store.specs.Store.{held}
+use Rattle.entering.proofs.Entering.{entering-start, entering-turn, entering-whole}
 use borrow.Author.Rules.{rules}
 use Rattle.entering.proofs.numbering.enter_numbers.Goals as goal
 

@@ -1,6 +1,5 @@
-use Rattle.entering.proofs.Entering.{Entering, entering-start, entering-turn, entering-whole}
+use Rattle.entering.proofs.Entering.{Entering}
 use Rattle.store.specs.Store.{held}
-use borrow.Author.Rules.{rules}
 use Rattle.entering.proofs.numbering.enter_numbers.Given as goal
 
 abbrev pub invariant-loop-i : goal.invariant-loop-i

@@ -1,7 +1,6 @@
 -- `replacing::replace`: the first j words are copied.
 use Prim.Native.Nat.{◌-◌}
-use Rattle.limits.specs.Limits.{max_declarations}
-use Rattle.entering.proofs.Copying.{Copied, copied-start, copied-turn, copied-whole}
+use Rattle.entering.proofs.Copying.{copied-start, copied-turn, copied-whole}
 use borrow.Author.Rules.{rules}
 use Rattle.entering.proofs.replacing.replace.Goals as goal
 

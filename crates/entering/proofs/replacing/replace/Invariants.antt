@@ -1,7 +1,6 @@
 use Prim.Native.Nat.{◌-◌}
 use Rattle.limits.specs.Limits.{max_declarations}
-use Rattle.entering.proofs.Copying.{Copied, copied-start, copied-turn, copied-whole}
-use borrow.Author.Rules.{rules}
+use Rattle.entering.proofs.Copying.{Copied}
 use Rattle.entering.proofs.replacing.replace.Given as goal
 
 abbrev pub invariant-loop-j : goal.invariant-loop-j

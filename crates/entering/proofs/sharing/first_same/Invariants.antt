@@ -1,6 +1,4 @@
 use Prim.Native.Nat.{◌-◌, ◌≤◌}
-use Rattle.entering.proofs.Copied.{same_here, same-itself}
-use borrow.Author.Rules.{rules}
 use Rattle.entering.proofs.sharing.first_same.Given as goal
 
 abbrev pub invariant-loop-i : goal.invariant-loop-i

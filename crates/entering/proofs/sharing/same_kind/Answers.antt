@@ -1,6 +1,5 @@
 -- `sharing::same_kind_lem`: the names are one and the kinds decide, or the names differ.
 use Rattle.entering.proofs.Copied.{kinds-told, names-differ}
-use borrow.Author.Rules.{rules}
 use Rattle.entering.proofs.sharing.same_kind.Goals as goal
 
 pub returns-then-name_at : goal.returns-then-name_at

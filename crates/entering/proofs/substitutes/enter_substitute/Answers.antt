@@ -1,6 +1,5 @@
 -- `substitutes::enter_substitute`: the declaration found has its form, or nothing has changed.
 use Rattle.entering.proofs.Substituting.{added-one, added_none}
-use borrow.Author.Rules.{rules}
 use Rattle.entering.proofs.substitutes.enter_substitute.Goals as goal
 
 pub returns-in-At : goal.returns-in-At

@@ -1,10 +1,7 @@
 -- `substitutes::enter_substitutes`: the first d declarations have their forms.
-use Prim.Native.Nat.{◌-◌, ◌≤◌}
-use Rattle.context.specs.Entries.{context_codes}
-use Rattle.entering.specs.Substitutes.{Substituted, around}
+use Prim.Native.Nat.{◌-◌}
 use Rattle.entering.proofs.Substituting.{substituted-start, substituted-whole, substituted-length}
 use Rattle.entering.proofs.Copied.{substituted-now, substituted-next}
-use Rattle.store.specs.Store.{held}
 use borrow.Author.Rules.{rules}
 use Rattle.entering.proofs.substitutes.enter_substitutes.Goals as goal
 

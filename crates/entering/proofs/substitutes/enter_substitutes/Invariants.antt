@@ -1,10 +1,7 @@
 use Prim.Native.Nat.{◌-◌, ◌≤◌}
 use Rattle.context.specs.Entries.{context_codes}
 use Rattle.entering.specs.Substitutes.{Substituted, around}
-use Rattle.entering.proofs.Substituting.{substituted-start, substituted-whole, substituted-length}
-use Rattle.entering.proofs.Copied.{substituted-now, substituted-next}
 use Rattle.store.specs.Store.{held}
-use borrow.Author.Rules.{rules}
 use Rattle.entering.proofs.substitutes.enter_substitutes.Given as goal
 
 abbrev pub invariant-loop-d : goal.invariant-loop-d

@@ -1,6 +1,5 @@
 -- `substitutes::same_declared`: the declaration of that name, if it has the kind.
 use Rattle.entering.proofs.Substituting.{same-found, same_none}
-use borrow.Author.Rules.{rules}
 use Rattle.entering.proofs.substitutes.same_declared.Goals as goal
 
 pub returns-in-At : goal.returns-in-At

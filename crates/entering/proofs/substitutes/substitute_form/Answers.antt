@@ -1,6 +1,5 @@
 -- `substitutes::substitute_form`: what is written, or what is implied.
 use Rattle.entering.proofs.Substituting.{stands-written, stands-implied}
-use borrow.Author.Rules.{rules}
 use Rattle.entering.proofs.substitutes.substitute_form.Goals as goal
 
 pub returns-in-Written : goal.returns-in-Written

@@ -1,8 +1,6 @@
 -- `written::find_substitution`: what is left to search gives what was asked.
-use mathlib.Core.Path.{◌≡◌, refl}
-use Rattle.entering.specs.Written.{written_at}
+use mathlib.Core.Path.{refl}
 use Rattle.entering.proofs.Finding.{find-end, find_past, find-here, find-next}
-use borrow.Author.Rules.{rules}
 use Rattle.entering.proofs.written.find_substitution.Goals as goal
 
 pub loop-left-init : goal.loop-left-init

@@ -1,7 +1,5 @@
-use mathlib.Core.Path.{◌≡◌, refl}
+use mathlib.Core.Path.{◌≡◌}
 use Rattle.entering.specs.Written.{written_at}
-use Rattle.entering.proofs.Finding.{find-end, find_past, find-here, find-next}
-use borrow.Author.Rules.{rules}
 use Rattle.entering.proofs.written.find_substitution.Given as goal
 
 abbrev pub invariant-loop-left : goal.invariant-loop-left

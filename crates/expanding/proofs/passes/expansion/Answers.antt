@@ -1,10 +1,6 @@
 -- `passes::expansion`: each turn replaces the highest definition that is called, so that the next is below it.
-use mathlib.Core.Path.{◌≡◌}
 use borrow.Author.Rules.{rules}
-use lib.ListN.{length}
-use Rattle.store.specs.Store.{held}
-use Rattle.templates.specs.Taking.{work_bytes}
-use Rattle.expanding.proofs.Looping.{Going, going_end, going_on, going-short, going_start}
+use Rattle.expanding.proofs.Looping.{going_end, going_on, going-short, going_start}
 use Rattle.expanding.proofs.passes.expansion.Goals as goal
 
 pub loop-k-init : goal.loop-k-init

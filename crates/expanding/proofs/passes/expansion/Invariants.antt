@@ -1,9 +1,8 @@
 use mathlib.Core.Path.{◌≡◌}
-use borrow.Author.Rules.{rules}
 use lib.ListN.{length}
 use Rattle.store.specs.Store.{held}
 use Rattle.templates.specs.Taking.{work_bytes}
-use Rattle.expanding.proofs.Looping.{Going, going_end, going_on, going-short, going_start}
+use Rattle.expanding.proofs.Looping.{Going}
 use Rattle.expanding.proofs.passes.expansion.Given as goal
 
 abbrev pub invariant-loop-k : goal.invariant-loop-k

@@ -1,9 +1,4 @@
-use Prim.Native.Nat.{◌+◌, ◌-◌, ◌≤◌, min}
-use mathlib.Core.Path.{◌≡◌}
-use lib.ListN.{length}
-use Rattle.symbols.proofs.Sizes.{by_two}
-use Rattle.symbols.specs.Weight.{weight}
-use Rattle.strings.specs.Read.{string_at}
+use Prim.Native.Nat.{◌-◌}
 use Rattle.expanding.proofs.Weighing.{weight-end, weight-turn, weight-within}
 use borrow.Author.Rules.{rules}
 use Rattle.expanding.proofs.passes.string_weight.Goals as goal

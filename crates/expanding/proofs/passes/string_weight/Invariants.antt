@@ -4,8 +4,6 @@ use lib.ListN.{length}
 use Rattle.symbols.proofs.Sizes.{by_two}
 use Rattle.symbols.specs.Weight.{weight}
 use Rattle.strings.specs.Read.{string_at}
-use Rattle.expanding.proofs.Weighing.{weight-end, weight-turn, weight-within}
-use borrow.Author.Rules.{rules}
 use Rattle.expanding.proofs.passes.string_weight.Given as goal
 
 abbrev pub invariant-loop-i : goal.invariant-loop-i

@@ -1,7 +1,6 @@
 -- `query::expand_shaped`: the expression read once, and the reply by what was read.
 use native.Mathlib.Omega.{arith}
 use Rattle.expanding.proofs.Reading.{reply-read}
-use borrow.Author.Rules.{rules}
 use Rattle.expanding.proofs.query.expand_shaped.Goals as goal
 
 pub expand_read-requires : goal.expand_read-requires

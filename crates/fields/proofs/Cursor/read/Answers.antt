@@ -1,5 +1,4 @@
 use Rattle.fields.proofs.Steps.{step_end, step-ended}
-use borrow.Author.Rules.{rules}
 use Rattle.fields.proofs.Cursor.read.Goals as goal
 
 pub returns-then-s-self : goal.returns-then-s-self

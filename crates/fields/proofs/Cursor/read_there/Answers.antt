@@ -1,5 +1,4 @@
 use Rattle.fields.proofs.Steps.{step-short, step-over, step-there}
-use borrow.Author.Rules.{rules}
 use Rattle.fields.proofs.Cursor.read_there.Goals as goal
 
 pub returns-then-s-at-lt3 : goal.returns-then-s-at-lt3

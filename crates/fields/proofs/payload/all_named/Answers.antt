@@ -1,8 +1,5 @@
 use Rattle.fields.proofs.Payloads.{name-end, name-next, name-zero}
-use mathlib.Core.Path.{◌≡◌, refl}
-use Prim.Native.Nat.{◌+◌, ◌*◌, ◌≤◌}
-use lib.ListN.{length}
-use Rattle.fields.specs.Payload.{all_named}
+use mathlib.Core.Path.{refl}
 use borrow.Author.Rules.{rules}
 use Rattle.fields.proofs.payload.all_named.Goals as goal
 

@@ -1,9 +1,7 @@
-use Rattle.fields.proofs.Payloads.{name-end, name-next, name-zero}
-use mathlib.Core.Path.{◌≡◌, refl}
+use mathlib.Core.Path.{◌≡◌}
 use Prim.Native.Nat.{◌+◌, ◌*◌, ◌≤◌}
 use lib.ListN.{length}
 use Rattle.fields.specs.Payload.{all_named}
-use borrow.Author.Rules.{rules}
 use Rattle.fields.proofs.payload.all_named.Given as goal
 
 abbrev pub invariant-loop-left : goal.invariant-loop-left

@@ -1,5 +1,4 @@
 use Rattle.fields.proofs.Payloads.{assume-cut, assume-there}
-use borrow.Author.Rules.{rules}
 use Rattle.fields.proofs.payload.assume_parts.Goals as goal
 
 pub returns-then-whole : goal.returns-then-whole

@@ -1,5 +1,4 @@
 use Rattle.fields.proofs.Payloads.{constant-size, constant-there, constant-zero}
-use borrow.Author.Rules.{rules}
 use Rattle.fields.proofs.payload.constant_parts.Goals as goal
 
 pub returns-then-n-eq0 : goal.returns-then-n-eq0

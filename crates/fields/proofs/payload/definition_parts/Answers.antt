@@ -1,5 +1,4 @@
 use Rattle.fields.proofs.Payloads.{definition-cut, definition-short, definition-there, definition-zero}
-use borrow.Author.Rules.{rules}
 use Rattle.fields.proofs.payload.definition_parts.Goals as goal
 
 pub returns-then-p-lt3 : goal.returns-then-p-lt3

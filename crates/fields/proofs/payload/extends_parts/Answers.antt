@@ -1,5 +1,4 @@
 use Rattle.fields.proofs.Payloads.{extends-none, extends-odd, extends-there, extends-zero}
-use borrow.Author.Rules.{rules}
 use Rattle.fields.proofs.payload.extends_parts.Goals as goal
 
 pub returns-then-p-eq0 : goal.returns-then-p-eq0

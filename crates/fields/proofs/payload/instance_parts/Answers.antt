@@ -1,5 +1,4 @@
 use Rattle.fields.proofs.Payloads.{instance-on, instance-short, instance-zero}
-use borrow.Author.Rules.{rules}
 use Rattle.fields.proofs.payload.instance_parts.Goals as goal
 
 pub returns-then-p-lt6 : goal.returns-then-p-lt6

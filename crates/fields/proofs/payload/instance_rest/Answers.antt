@@ -1,5 +1,4 @@
 use Rattle.fields.proofs.Payloads.{instance-cut, instance-head, instance-there}
-use borrow.Author.Rules.{rules}
 use Rattle.fields.proofs.payload.instance_rest.Goals as goal
 
 pub returns-then-substitutions_fit : goal.returns-then-substitutions_fit

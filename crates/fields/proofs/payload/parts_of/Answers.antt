@@ -1,5 +1,4 @@
 use Rattle.fields.proofs.Payloads.{tag-other, tag-1, tag-2, tag-3, tag-4, tag-5, tag-6, tag-7, tag-8, tag-9}
-use borrow.Author.Rules.{rules}
 use Rattle.fields.proofs.payload.parts_of.Goals as goal
 
 pub returns-in-1 : goal.returns-in-1

@@ -1,5 +1,4 @@
 use Rattle.fields.proofs.Payloads.{variable-size, variable-there, variable-zero}
-use borrow.Author.Rules.{rules}
 use Rattle.fields.proofs.payload.variable_parts.Goals as goal
 
 pub returns-then-n-eq0 : goal.returns-then-n-eq0

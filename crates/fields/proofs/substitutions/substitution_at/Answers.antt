@@ -1,5 +1,4 @@
 use Rattle.fields.proofs.Substituting.{substitution-there}
-use borrow.Author.Rules.{rules}
 use Rattle.fields.proofs.substitutions.substitution_at.Goals as goal
 
 pub returns : goal.returns

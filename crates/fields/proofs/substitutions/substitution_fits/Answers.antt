@@ -1,5 +1,4 @@
 use Rattle.fields.proofs.Substituting.{fits-over, fits-short, fits_whole, fits-zero}
-use borrow.Author.Rules.{rules}
 use Rattle.fields.proofs.substitutions.substitution_fits.Goals as goal
 
 pub returns-then-p-at-lt4 : goal.returns-then-p-at-lt4

@@ -1,8 +1,5 @@
 use Rattle.fields.proofs.Substituting.{in-fits, in-room, substitution-bad, substitution-end, substitution-next}
-use mathlib.Core.Path.{◌≡◌, refl}
-use Prim.Native.Nat.{◌≤◌}
-use lib.ListN.{length}
-use Rattle.fields.specs.Substitution.{substitutions_fit}
+use mathlib.Core.Path.{refl}
 use borrow.Author.Rules.{rules}
 use Rattle.fields.proofs.substitutions.substitutions_fit.Goals as goal
 

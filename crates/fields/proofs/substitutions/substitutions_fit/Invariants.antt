@@ -1,9 +1,7 @@
-use Rattle.fields.proofs.Substituting.{in-fits, in-room, substitution-bad, substitution-end, substitution-next}
-use mathlib.Core.Path.{◌≡◌, refl}
+use mathlib.Core.Path.{◌≡◌}
 use Prim.Native.Nat.{◌≤◌}
 use lib.ListN.{length}
 use Rattle.fields.specs.Substitution.{substitutions_fit}
-use borrow.Author.Rules.{rules}
 use Rattle.fields.proofs.substitutions.substitutions_fit.Given as goal
 
 abbrev pub invariant-loop-left : goal.invariant-loop-left

@@ -1,10 +1,8 @@
-use mathlib.Core.Path.{◌≡◌, refl}
+use mathlib.Core.Path.{◌≡◌}
 use Prim.Native.Nat.{◌-◌}
 use Rattle.context.specs.Parts.{part}
 use Rattle.instance_names.specs.Sites.{miscounted_among}
-use Rattle.instance_names.proofs.Turns.{counted-end, counted-hit, counted_next}
 use Rattle.store.specs.Store.{held}
-use borrow.Author.Rules.{rules}
 use Rattle.instance_names.proofs.implied.miscounted_among.Given as goal
 
 abbrev pub invariant-loop-i : goal.invariant-loop-i

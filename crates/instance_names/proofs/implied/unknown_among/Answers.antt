@@ -1,9 +1,6 @@
-use mathlib.Core.Path.{◌≡◌, refl}
+use mathlib.Core.Path.{refl}
 use Prim.Native.Nat.{◌-◌}
-use Rattle.context.specs.Parts.{part}
-use Rattle.instance_names.specs.Sites.{unknown_among}
 use Rattle.instance_names.proofs.Turns.{known-end, known-hit, known_next}
-use Rattle.store.specs.Store.{held}
 use borrow.Author.Rules.{rules}
 use Rattle.instance_names.proofs.implied.unknown_among.Goals as goal
 

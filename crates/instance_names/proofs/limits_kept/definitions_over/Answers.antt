@@ -1,9 +1,6 @@
-use mathlib.Core.Path.{◌≡◌, refl}
+use mathlib.Core.Path.{refl}
 use Prim.Native.Nat.{◌-◌}
-use Rattle.context.specs.Parts.{part}
-use Rattle.instance_names.specs.Sites.{definitions_over}
 use Rattle.instance_names.proofs.Turns.{definitions-end, definitions-hit, definitions-next}
-use Rattle.store.specs.Store.{held}
 use borrow.Author.Rules.{rules}
 use Rattle.instance_names.proofs.limits_kept.definitions_over.Goals as goal
 

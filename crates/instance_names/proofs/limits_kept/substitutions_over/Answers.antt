@@ -1,7 +1,5 @@
-use mathlib.Core.Path.{◌≡◌, refl}
-use Rattle.instance_names.specs.Sites.{substitutions_over}
+use mathlib.Core.Path.{refl}
 use Rattle.instance_names.proofs.Turns.{over-end, over-hit, over-next, over-past}
-use Rattle.store.specs.Store.{held}
 use borrow.Author.Rules.{rules}
 use Rattle.instance_names.proofs.limits_kept.substitutions_over.Goals as goal
 

@@ -1,8 +1,6 @@
-use mathlib.Core.Path.{◌≡◌, refl}
+use mathlib.Core.Path.{◌≡◌}
 use Rattle.instance_names.specs.Sites.{substitutions_over}
-use Rattle.instance_names.proofs.Turns.{over-end, over-hit, over-next, over-past}
 use Rattle.store.specs.Store.{held}
-use borrow.Author.Rules.{rules}
 use Rattle.instance_names.proofs.limits_kept.substitutions_over.Given as goal
 
 abbrev pub invariant-loop-left : goal.invariant-loop-left

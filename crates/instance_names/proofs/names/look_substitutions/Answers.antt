@@ -1,5 +1,4 @@
-use Rattle.instance_names.proofs.LookTurns.{Looked, look-end, look-past, look-start, look-turn}
-use Rattle.store.specs.Store.{held}
+use Rattle.instance_names.proofs.LookTurns.{look-end, look-past, look-start, look-turn}
 use borrow.Author.Rules.{rules}
 use Rattle.instance_names.proofs.names.look_substitutions.Goals as goal
 

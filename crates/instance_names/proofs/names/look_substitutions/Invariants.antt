@@ -1,6 +1,5 @@
-use Rattle.instance_names.proofs.LookTurns.{Looked, look-end, look-past, look-start, look-turn}
+use Rattle.instance_names.proofs.LookTurns.{Looked}
 use Rattle.store.specs.Store.{held}
-use borrow.Author.Rules.{rules}
 use Rattle.instance_names.proofs.names.look_substitutions.Given as goal
 
 abbrev pub invariant-loop-left : goal.invariant-loop-left

@@ -1,5 +1,4 @@
-use mathlib.Core.Path.{◌≡◌, refl}
-use Rattle.instance_names.specs.Sites.{repeated_from}
+use mathlib.Core.Path.{refl}
 use Rattle.instance_names.proofs.Turns.{repeated-end, repeated-hit, repeated-next, repeated-past}
 use borrow.Author.Rules.{rules}
 use Rattle.instance_names.proofs.written.repeated_name.Goals as goal

@@ -1,7 +1,5 @@
-use mathlib.Core.Path.{◌≡◌, refl}
+use mathlib.Core.Path.{◌≡◌}
 use Rattle.instance_names.specs.Sites.{repeated_from}
-use Rattle.instance_names.proofs.Turns.{repeated-end, repeated-hit, repeated-next, repeated-past}
-use borrow.Author.Rules.{rules}
 use Rattle.instance_names.proofs.written.repeated_name.Given as goal
 
 abbrev pub invariant-loop-left : goal.invariant-loop-left

@@ -1,7 +1,5 @@
-use mathlib.Core.Path.{◌≡◌, refl}
-use Rattle.instance_names.specs.Sites.{undeclared_in}
+use mathlib.Core.Path.{refl}
 use Rattle.instance_names.proofs.Turns.{undeclared-end, undeclared-hit, undeclared-next, undeclared-past}
-use Rattle.store.specs.Store.{held}
 use borrow.Author.Rules.{rules}
 use Rattle.instance_names.proofs.written.undeclared_name.Goals as goal
 

@@ -1,8 +1,6 @@
-use mathlib.Core.Path.{◌≡◌, refl}
+use mathlib.Core.Path.{◌≡◌}
 use Rattle.instance_names.specs.Sites.{undeclared_in}
-use Rattle.instance_names.proofs.Turns.{undeclared-end, undeclared-hit, undeclared-next, undeclared-past}
 use Rattle.store.specs.Store.{held}
-use borrow.Author.Rules.{rules}
 use Rattle.instance_names.proofs.written.undeclared_name.Given as goal
 
 abbrev pub invariant-loop-left : goal.invariant-loop-left

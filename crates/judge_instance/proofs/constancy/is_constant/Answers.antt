@@ -1,5 +1,4 @@
 use Rattle.judge_instance.proofs.ConstancyCases.{constant-even, constant-not}
-use borrow.Author.Rules.{rules}
 use Rattle.judge_instance.proofs.constancy.is_constant.Goals as goal
 
 pub returns-then-variable_among : goal.returns-then-variable_among

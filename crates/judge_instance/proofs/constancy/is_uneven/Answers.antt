@@ -1,5 +1,4 @@
 use Rattle.judge_instance.proofs.ConstancyCases.{uneven-form, uneven-other}
-use borrow.Author.Rules.{rules}
 use Rattle.judge_instance.proofs.constancy.is_uneven.Goals as goal
 
 pub returns-then-d-lt-DEFINITIONS : goal.returns-then-d-lt-DEFINITIONS

@@ -1,5 +1,4 @@
 use Rattle.judge_instance.proofs.ConstancyCases.{variable-code, variable-other}
-use borrow.Author.Rules.{rules}
 use Rattle.judge_instance.proofs.constancy.is_variable.Goals as goal
 
 pub returns-then-is_declared : goal.returns-then-is_declared

@@ -1,10 +1,6 @@
 use Prim.Native.Nat.{◌-◌}
-use mathlib.Core.Path.{◌≡◌, refl}
-use Rattle.context.specs.Parts.{part}
-use Rattle.judge_instance.specs.Constancy.{uneven_among}
+use mathlib.Core.Path.{refl}
 use Rattle.judge_instance.proofs.ConstancyCases.{uneven-end, uneven-hit, uneven-next}
-use Rattle.store.specs.Store.{held}
-use borrow.Author.Rules.{rules}
 use Rattle.judge_instance.proofs.constancy.uneven_among.Goals as goal
 
 pub loop-i-init : goal.loop-i-init

@@ -1,10 +1,6 @@
 use Prim.Native.Nat.{◌-◌}
-use mathlib.Core.Path.{◌≡◌, refl}
-use Rattle.context.specs.Parts.{part}
-use Rattle.judge_instance.specs.Constancy.{variable_among}
+use mathlib.Core.Path.{refl}
 use Rattle.judge_instance.proofs.ConstancyCases.{variable-end, variable-hit, variable-next}
-use Rattle.store.specs.Store.{held}
-use borrow.Author.Rules.{rules}
 use Rattle.judge_instance.proofs.constancy.variable_among.Goals as goal
 
 pub loop-i-init : goal.loop-i-init

@@ -1,10 +1,8 @@
 use Prim.Native.Nat.{◌-◌}
-use mathlib.Core.Path.{◌≡◌, refl}
+use mathlib.Core.Path.{◌≡◌}
 use Rattle.context.specs.Parts.{part}
 use Rattle.judge_instance.specs.Constancy.{variable_among}
-use Rattle.judge_instance.proofs.ConstancyCases.{variable-end, variable-hit, variable-next}
 use Rattle.store.specs.Store.{held}
-use borrow.Author.Rules.{rules}
 use Rattle.judge_instance.proofs.constancy.variable_among.Given as goal
 
 abbrev pub invariant-loop-i : goal.invariant-loop-i

@@ -1,5 +1,4 @@
 use Rattle.judge_instance.proofs.LevelCases.{seen-0, seen-12, seen-14, seen-16, seen-21}
-use borrow.Author.Rules.{rules}
 use Rattle.judge_instance.proofs.lawful.cause_seen.Goals as goal
 
 -- every return by all of them: the order of the tests is no part of the proof

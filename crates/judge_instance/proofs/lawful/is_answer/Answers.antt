@@ -1,5 +1,4 @@
 use Rattle.judge_instance.proofs.LevelCases.{answer-constant, answer-defined, answer-not-variable, answer-unknown, answer-variable}
-use borrow.Author.Rules.{rules}
 use Rattle.judge_instance.proofs.lawful.is_answer.Goals as goal
 
 pub returns-then-kind-eq-VARIABLE : goal.returns-then-kind-eq-VARIABLE

@@ -1,5 +1,4 @@
 use Rattle.judge_instance.proofs.LevelCases.{lawful-bound, lawful-free, lawful-variable}
-use borrow.Author.Rules.{rules}
 use Rattle.judge_instance.proofs.lawful.is_lawful.Goals as goal
 
 pub returns-then-kind-eq-VARIABLE : goal.returns-then-kind-eq-VARIABLE

@@ -1,5 +1,4 @@
 use Rattle.judge_instance.proofs.LevelCases.{mixed-constant, mixed-other}
-use borrow.Author.Rules.{rules}
 use Rattle.judge_instance.proofs.lawful.is_mixed.Goals as goal
 
 pub returns-then-constant : goal.returns-then-constant

@@ -1,5 +1,4 @@
 use Rattle.judge_instance.proofs.LevelCases.{own-declared, own-other}
-use borrow.Author.Rules.{rules}
 use Rattle.judge_instance.proofs.lawful.is_own.Goals as goal
 
 pub returns-then-is_declared : goal.returns-then-is_declared

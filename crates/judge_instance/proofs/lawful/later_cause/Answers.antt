@@ -1,5 +1,4 @@
 use Rattle.judge_instance.proofs.LevelCases.{later-own}
-use borrow.Author.Rules.{rules}
 use Rattle.judge_instance.proofs.lawful.later_cause.Goals as goal
 
 pub returns : goal.returns

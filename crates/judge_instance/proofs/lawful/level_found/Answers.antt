@@ -1,5 +1,4 @@
 use Rattle.judge_instance.proofs.LevelCases.{level-none, level-stood}
-use borrow.Author.Rules.{rules}
 use Rattle.judge_instance.proofs.lawful.level_found.Goals as goal
 
 pub returns-then-is_own : goal.returns-then-is_own

@@ -1,5 +1,4 @@
 use Rattle.judge_instance.proofs.LevelCases.{seen-whole}
-use borrow.Author.Rules.{rules}
 use Rattle.judge_instance.proofs.lawful.levels_seen.Goals as goal
 
 pub returns : goal.returns

@@ -1,11 +1,5 @@
-use Prim.Native.Nat.{◌-◌, ◌*◌}
-use Rattle.limits.specs.Sizes.{context_length}
-use Rattle.context.specs.Parts.{part}
-use Rattle.context.specs.Entries.{context_codes}
-use Rattle.entering.specs.Substitutes.{around}
-use Rattle.judge_instance.proofs.LevelCases.{SeenLeft, seen_end, seen_next, seen_start}
-use Rattle.store.specs.Store.{held}
-use borrow.Author.Rules.{rules}
+use Prim.Native.Nat.{◌-◌}
+use Rattle.judge_instance.proofs.LevelCases.{seen_end, seen_next, seen_start}
 use Rattle.judge_instance.proofs.lawful.seen_among.Goals as goal
 
 pub loop-i-init : goal.loop-i-init

@@ -3,9 +3,8 @@ use Rattle.limits.specs.Sizes.{context_length}
 use Rattle.context.specs.Parts.{part}
 use Rattle.context.specs.Entries.{context_codes}
 use Rattle.entering.specs.Substitutes.{around}
-use Rattle.judge_instance.proofs.LevelCases.{SeenLeft, seen_end, seen_next, seen_start}
+use Rattle.judge_instance.proofs.LevelCases.{SeenLeft}
 use Rattle.store.specs.Store.{held}
-use borrow.Author.Rules.{rules}
 use Rattle.judge_instance.proofs.lawful.seen_among.Given as goal
 
 abbrev pub invariant-loop-i : goal.invariant-loop-i

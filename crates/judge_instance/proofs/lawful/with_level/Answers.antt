@@ -1,5 +1,4 @@
 use Rattle.judge_instance.proofs.LevelCases.{with-level}
-use borrow.Author.Rules.{rules}
 use Rattle.judge_instance.proofs.lawful.with_level.Goals as goal
 
 pub returns : goal.returns

@@ -1,5 +1,4 @@
 use Rattle.judge_plain.proofs.Answers.{arity-over, declaration-early, declaration-over, name_free, name-there}
-use borrow.Author.Rules.{rules}
 use Rattle.judge_plain.proofs.declarations.declaration_cause.Goals as goal
 
 pub returns-then-out_of_order : goal.returns-then-out_of_order

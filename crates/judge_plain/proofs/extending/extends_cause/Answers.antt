@@ -1,5 +1,4 @@
 use Rattle.judge_plain.proofs.Extensions.{cause-early, cause-missing, cause-none}
-use borrow.Author.Rules.{rules}
 use Rattle.judge_plain.proofs.extending.extends_cause.Goals as goal
 
 pub returns-then-out_of_order : goal.returns-then-out_of_order

@@ -1,10 +1,5 @@
-use Prim.Native.Nat.{◌+◌, ◌*◌, ◌≤◌}
-use mathlib.Core.Path.{◌≡◌, refl}
-use Rattle.agree.specs.Parts.{names_at}
+use mathlib.Core.Path.{refl}
 use Rattle.judge_plain.proofs.Joins.{missing-end, missing-hit, missing-next}
-use Rattle.judge_plain.specs.Extending.{missing_in}
-use Rattle.limits.specs.Limits.{file_bytes}
-use Rattle.store.specs.Store.{held}
 use borrow.Author.Rules.{rules}
 use Rattle.judge_plain.proofs.extending.has_missing_name.Goals as goal
 

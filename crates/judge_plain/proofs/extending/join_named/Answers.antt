@@ -1,10 +1,5 @@
-use Prim.Native.Nat.{◌+◌, ◌*◌, ◌≤◌}
-use lib.ListN.{length}
-use mathlib.Core.Path.{◌≡◌, refl}
-use Rattle.agree.specs.Parts.{names_at}
-use Rattle.judge_plain.proofs.Joins.{Joining, join-done, join-ready, join-start, join-turn}
-use Rattle.limits.specs.Limits.{file_bytes}
-use Rattle.store.specs.Store.{held}
+use mathlib.Core.Path.{refl}
+use Rattle.judge_plain.proofs.Joins.{join-done, join-ready, join-start, join-turn}
 use borrow.Author.Rules.{rules}
 use Rattle.judge_plain.proofs.extending.join_named.Goals as goal
 

@@ -1,11 +1,10 @@
 use Prim.Native.Nat.{◌+◌, ◌*◌, ◌≤◌}
 use lib.ListN.{length}
-use mathlib.Core.Path.{◌≡◌, refl}
+use mathlib.Core.Path.{◌≡◌}
 use Rattle.agree.specs.Parts.{names_at}
-use Rattle.judge_plain.proofs.Joins.{Joining, join-done, join-ready, join-start, join-turn}
+use Rattle.judge_plain.proofs.Joins.{Joining}
 use Rattle.limits.specs.Limits.{file_bytes}
 use Rattle.store.specs.Store.{held}
-use borrow.Author.Rules.{rules}
 use Rattle.judge_plain.proofs.extending.join_named.Given as goal
 
 abbrev pub invariant-loop-left : goal.invariant-loop-left

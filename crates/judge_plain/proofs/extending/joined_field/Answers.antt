@@ -1,5 +1,4 @@
 use Rattle.judge_plain.proofs.Extensions.{joined_once, joined-twice}
-use borrow.Author.Rules.{rules}
 use Rattle.judge_plain.proofs.extending.joined_field.Goals as goal
 
 pub returns-then-has_repeated_name : goal.returns-then-has_repeated_name

@@ -1,5 +1,4 @@
 use Rattle.judge_plain.proofs.Answers.{end-early, end-lawful}
-use borrow.Author.Rules.{rules}
 use Rattle.judge_plain.proofs.modules.end_cause.Goals as goal
 
 pub returns-then-out_of_order : goal.returns-then-out_of_order

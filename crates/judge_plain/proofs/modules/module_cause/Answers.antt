@@ -1,5 +1,4 @@
 use Rattle.judge_plain.proofs.Answers.{module-early, module-free, module-over, module-used}
-use borrow.Author.Rules.{rules}
 use Rattle.judge_plain.proofs.modules.module_cause.Goals as goal
 
 pub returns-then-out_of_order : goal.returns-then-out_of_order

@@ -1,5 +1,4 @@
 use Rattle.judge_plain.proofs.Answers.{answer-refused, answer-taken, kept-after, kept-before}
-use borrow.Author.Rules.{rules}
 use Rattle.judge_plain.proofs.modules.module_field.Goals as goal
 
 pub returns-then-cause-ne0 : goal.returns-then-cause-ne0

@@ -1,5 +1,4 @@
 use Rattle.judge_texts.proofs.Answers.{define-early, define-free, define-many, define-over, define-there, define-wide}
-use borrow.Author.Rules.{rules}
 use Rattle.judge_texts.proofs.definitions.definition_cause.Goals as goal
 
 pub returns-then-out_of_order : goal.returns-then-out_of_order

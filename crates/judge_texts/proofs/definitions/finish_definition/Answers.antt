@@ -1,5 +1,4 @@
 use Rattle.judge_texts.proofs.Answers.{finish-added, finish-wrong}
-use borrow.Author.Rules.{rules}
 use Rattle.judge_texts.proofs.definitions.finish_definition.Goals as goal
 
 pub returns-then-cause-ne0 : goal.returns-then-cause-ne0

@@ -1,5 +1,4 @@
 use Rattle.judge_plain.proofs.Answers.{answer-refused, answer-taken}
-use borrow.Author.Rules.{rules}
 use Rattle.judge_texts.proofs.formulas.answered.Goals as goal
 
 pub returns-then-cause-ne0 : goal.returns-then-cause-ne0

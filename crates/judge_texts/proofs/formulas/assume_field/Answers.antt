@@ -1,5 +1,4 @@
 use Rattle.judge_texts.proofs.FormulaLaws.{assume-judging}
-use borrow.Author.Rules.{rules}
 use Rattle.judge_texts.proofs.formulas.assume_field.Goals as goal
 
 pub returns : goal.returns

@@ -1,5 +1,4 @@
 use Rattle.judge_texts.proofs.Answers.{formula-early, formula-kept, formula-over}
-use borrow.Author.Rules.{rules}
 use Rattle.judge_texts.proofs.formulas.formula_cause.Goals as goal
 
 pub returns-then-out_of_order : goal.returns-then-out_of_order

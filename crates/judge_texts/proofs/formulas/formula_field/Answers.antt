@@ -1,5 +1,4 @@
 use Rattle.judge_texts.proofs.Answers.{formula-stopped, formula-walked}
-use borrow.Author.Rules.{rules}
 use Rattle.judge_texts.proofs.formulas.formula_field.Goals as goal
 
 pub returns-then-cause-ne0 : goal.returns-then-cause-ne0

@@ -1,5 +1,4 @@
 use Rattle.judge_texts.proofs.Answers.{limit-kept, limit-passed}
-use borrow.Author.Rules.{rules}
 use Rattle.judge_texts.proofs.formulas.is_passed.Goals as goal
 
 pub returns-in-Kept : goal.returns-in-Kept

@@ -1,5 +1,4 @@
 use Rattle.judge_texts.proofs.Answers.{last-loose, last-strict, last-text, last-zero}
-use borrow.Author.Rules.{rules}
 use Rattle.judge_texts.proofs.formulas.last_cause.Goals as goal
 
 pub returns-then-cause-ne0 : goal.returns-then-cause-ne0

@@ -1,5 +1,4 @@
 use Rattle.tokens.proofs.Places.{past}
-use borrow.Author.Rules.{rules}
 use Rattle.levels.proofs.names.form_at.Goals as goal
 
 pub returns-else-g-words : goal.returns-else-g-words

@@ -1,7 +1,6 @@
 use Prim.Native.Nat.{◌-◌}
 use Rattle.limits.specs.Limits.{max_definitions}
-use Rattle.levels.proofs.Numbered.{Numbered, numbered-start, numbered-turn, numbered-length, numbered-inside, numbered-whole}
-use borrow.Author.Rules.{rules}
+use Rattle.levels.proofs.Numbered.{Numbered}
 use Rattle.levels.proofs.names.identity.Given as goal
 
 abbrev pub invariant-loop-i : goal.invariant-loop-i

@@ -1,5 +1,4 @@
 use Rattle.tokens.proofs.Places.{past}
-use borrow.Author.Rules.{rules}
 use Rattle.levels.proofs.names.number_at.Goals as goal
 
 pub returns-else-i-t : goal.returns-else-i-t

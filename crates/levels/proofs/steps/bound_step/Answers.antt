@@ -1,5 +1,4 @@
 use Rattle.levels.proofs.Heads.{bound-stepped}
-use borrow.Author.Rules.{rules}
 use Rattle.levels.proofs.steps.bound_step.Goals as goal
 
 pub returns : goal.returns

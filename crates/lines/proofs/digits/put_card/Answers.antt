@@ -1,8 +1,6 @@
 use native.Mathlib.Omega.{arith}
 use Prim.Native.Nat.{◌-◌}
-use Rattle.limits.specs.Limits.{card_bytes}
-use Rattle.forms.specs.Forms.{level_at}
-use Rattle.lines.proofs.Spelling.{Spelt, spelt-start, spelt-turn, spelt-length, spelt-room, spelt-done}
+use Rattle.lines.proofs.Spelling.{spelt-start, spelt-turn, spelt-length, spelt-room, spelt-done}
 use borrow.Author.Rules.{rules}
 use Rattle.lines.proofs.digits.put_card.Goals as goal
 

@@ -1,9 +1,7 @@
-use native.Mathlib.Omega.{arith}
 use Prim.Native.Nat.{◌-◌}
 use Rattle.limits.specs.Limits.{card_bytes}
 use Rattle.forms.specs.Forms.{level_at}
-use Rattle.lines.proofs.Spelling.{Spelt, spelt-start, spelt-turn, spelt-length, spelt-room, spelt-done}
-use borrow.Author.Rules.{rules}
+use Rattle.lines.proofs.Spelling.{Spelt}
 use Rattle.lines.proofs.digits.put_card.Given as goal
 
 abbrev pub invariant-loop-k : goal.invariant-loop-k

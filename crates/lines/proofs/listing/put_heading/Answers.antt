@@ -1,6 +1,5 @@
 -- `put_heading`: the bytes and the number.
 use Rattle.lines.proofs.Lines.{heading-put}
-use borrow.Author.Rules.{rules}
 use Rattle.lines.proofs.listing.put_heading.Goals as goal
 
 pub returns : goal.returns

@@ -1,7 +1,6 @@
 -- `put_line`: its parts.
 use Rattle.lines.proofs.Lines.{line-put}
 use Rattle.store.specs.Store.{held}
-use borrow.Author.Rules.{rules}
 use Rattle.lines.proofs.listing.put_line.Goals as goal
 
 pub returns : goal.returns

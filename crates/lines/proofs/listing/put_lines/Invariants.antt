@@ -1,7 +1,6 @@
 use Prim.Native.Nat.{◌-◌}
-use Rattle.lines.proofs.Lines.{Lined, lined-done, lined-length, lined-start, lined-turn}
+use Rattle.lines.proofs.Lines.{Lined}
 use Rattle.store.specs.Store.{held}
-use borrow.Author.Rules.{rules}
 use Rattle.lines.proofs.listing.put_lines.Given as goal
 
 abbrev pub invariant-loop-g : goal.invariant-loop-g

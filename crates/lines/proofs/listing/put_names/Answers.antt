@@ -1,7 +1,6 @@
 -- `put_names`: three numbers.
 use Rattle.lines.proofs.Lines.{names-put}
 use Rattle.store.specs.Store.{held}
-use borrow.Author.Rules.{rules}
 use Rattle.lines.proofs.listing.put_names.Goals as goal
 
 pub returns : goal.returns

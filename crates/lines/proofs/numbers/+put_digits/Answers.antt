@@ -1,6 +1,5 @@
 -- `put_digits`: the digits before the last, and then the last.
 use borrow.Author.Rules.{rules}
-use Prim.Native.Nat.{ℕ, ◌<◌}
 use Rattle.lines.proofs.Writing.{more-digits, no-digits, one-digit}
 use Rattle.lines.proofs.numbers.+put_digits.Goals as goal
 

@@ -1,6 +1,5 @@
 -- `put_number`: digits, and a byte.
 use Rattle.lines.proofs.Writing.{number_put}
-use borrow.Author.Rules.{rules}
 use Rattle.lines.proofs.numbers.put_number.Goals as goal
 
 pub returns : goal.returns

@@ -1,6 +1,5 @@
 -- `expansion::refuse_size`.
 use Rattle.queries.proofs.Extending.{expand-wrong-size}
-use borrow.Author.Rules.{rules}
 use Rattle.queries.proofs.expansion.refuse_size.Goals as goal
 
 pub returns : goal.returns

@@ -1,5 +1,4 @@
 use Rattle.queries.proofs.Picking.{both, no-first, no_second}
-use borrow.Author.Rules.{rules}
 use Rattle.queries.proofs.replies.alike_reply.Goals as goal
 
 pub returns-then-n-g : goal.returns-then-n-g

@@ -1,5 +1,4 @@
 use Rattle.queries.proofs.Picking.{no_body, one-body}
-use borrow.Author.Rules.{rules}
 use Rattle.queries.proofs.replies.body_reply.Goals as goal
 
 pub returns-then-n-g : goal.returns-then-n-g

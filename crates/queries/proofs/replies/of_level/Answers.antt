@@ -1,5 +1,4 @@
 use Rattle.queries.proofs.Outcomes.{of-level, of-refusal}
-use borrow.Author.Rules.{rules}
 use Rattle.queries.proofs.replies.of_level.Goals as goal
 
 pub returns-in-Level : goal.returns-in-Level

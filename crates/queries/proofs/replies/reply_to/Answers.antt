@@ -1,5 +1,4 @@
 use Rattle.queries.proofs.Showing.{compared, levelled, located}
-use borrow.Author.Rules.{rules}
 use Rattle.queries.proofs.replies.reply_to.Goals as goal
 
 pub returns-in-Level : goal.returns-in-Level

@@ -1,8 +1,6 @@
-use mathlib.Core.Path.{◌≡◌, refl}
-use Prim.Native.Nat.{◌-◌, ◌*◌, ◌≤◌}
+use mathlib.Core.Path.{refl}
+use Prim.Native.Nat.{◌-◌}
 use native.Mathlib.Omega.{arith}
-use Rattle.limits.specs.Limits.{card_bytes}
-use Rattle.queries.specs.Replies.{same_from}
 use Rattle.queries.proofs.SameCards.{same_differs, same_end, same_next}
 use borrow.Author.Rules.{rules}
 use Rattle.queries.proofs.replies.same_cards.Goals as goal

@@ -1,10 +1,7 @@
-use mathlib.Core.Path.{◌≡◌, refl}
+use mathlib.Core.Path.{◌≡◌}
 use Prim.Native.Nat.{◌-◌, ◌*◌, ◌≤◌}
-use native.Mathlib.Omega.{arith}
 use Rattle.limits.specs.Limits.{card_bytes}
 use Rattle.queries.specs.Replies.{same_from}
-use Rattle.queries.proofs.SameCards.{same_differs, same_end, same_next}
-use borrow.Author.Rules.{rules}
 use Rattle.queries.proofs.replies.same_cards.Given as goal
 
 abbrev pub invariant-loop-i : goal.invariant-loop-i

@@ -2,9 +2,7 @@
 use Rattle.query_strings.proofs.Reading.{argument-skipped, argument-written, reads-count, reads-limit, reads-lost, reads_more, reads_none, reads_nothing, reads-past, reads-token, stands}
 use Rattle.resolve.proofs.Walking.{deeper-low, under_low}
 use native.Mathlib.Omega.{arith}
-use Prim.Native.Nat.{◌+◌, ◌*◌}
 use borrow.Author.Rules.{rules}
-use Prim.Native.Nat.{ℕ, ◌<◌}
 use Rattle.query_strings.proofs.walk.+read_args_read_argument_read_expr_read_token.Goals as goal
 
 pub read_args-returns-then-k-eq0 : goal.read_args-returns-then-k-eq0

@@ -1,6 +1,5 @@
 use mathlib.Core.Path.{refl}
 use Rattle.query_strings.proofs.Reading.{head-put}
-use borrow.Author.Rules.{rules}
 use Rattle.query_strings.proofs.walk.read_head.Goals as goal
 
 pub returns : goal.returns

@@ -1,5 +1,4 @@
 use Rattle.resolve.proofs.Looking.{at-parameter, at_bound, at_name, at-instance, at-built-in, at_literal, at-no-token}
-use borrow.Author.Rules.{rules}
 use Rattle.resolve.proofs.lookup.look_up.Goals as goal
 
 pub returns-in-Parameter : goal.returns-in-Parameter

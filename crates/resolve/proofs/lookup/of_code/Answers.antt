@@ -1,5 +1,4 @@
 use Rattle.resolve.proofs.Looking.{code_at, code-absent}
-use borrow.Author.Rules.{rules}
 use Rattle.resolve.proofs.lookup.of_code.Goals as goal
 
 pub returns-in-At : goal.returns-in-At

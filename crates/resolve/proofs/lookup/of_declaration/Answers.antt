@@ -1,5 +1,4 @@
 use Rattle.resolve.proofs.Looking.{numbered, not-numbered}
-use borrow.Author.Rules.{rules}
 use Rattle.resolve.proofs.lookup.of_declaration.Goals as goal
 
 pub returns-then-d-lt-DECLARATIONS : goal.returns-then-d-lt-DECLARATIONS

@@ -1,5 +1,4 @@
 use Rattle.resolve.proofs.Looking.{definition}
-use borrow.Author.Rules.{rules}
 use Rattle.resolve.proofs.lookup.of_definition.Goals as goal
 
 pub returns : goal.returns

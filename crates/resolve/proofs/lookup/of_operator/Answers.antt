@@ -1,5 +1,4 @@
 use Rattle.resolve.proofs.Looking.{as-constant, as-variable, as-definition, as-unknown}
-use borrow.Author.Rules.{rules}
 use Rattle.resolve.proofs.lookup.of_operator.Goals as goal
 
 pub returns-in-Constant : goal.returns-in-Constant

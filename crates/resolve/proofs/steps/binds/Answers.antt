@@ -1,5 +1,4 @@
 use Rattle.resolve.proofs.Walking.{binds-code}
-use borrow.Author.Rules.{rules}
 use Rattle.resolve.proofs.steps.binds.Goals as goal
 
 pub returns-in-BuiltIn : goal.returns-in-BuiltIn

@@ -1,5 +1,4 @@
 use Rattle.resolve.proofs.Walking.{binds-none, binds-one}
-use borrow.Author.Rules.{rules}
 use Rattle.resolve.proofs.steps.bound_inside.Goals as goal
 
 pub returns-then-binds-eq0 : goal.returns-then-binds-eq0

@@ -1,5 +1,4 @@
 use Rattle.resolve.proofs.Walking.{miscounted-name, miscounted-instance}
-use borrow.Author.Rules.{rules}
 use Rattle.resolve.proofs.steps.is_miscounted.Goals as goal
 
 pub returns-in-Name : goal.returns-in-Name

@@ -1,5 +1,4 @@
 use Rattle.resolve.proofs.Walking.{unknown-parameter, unknown-bound}
-use borrow.Author.Rules.{rules}
 use Rattle.resolve.proofs.steps.is_unknown.Goals as goal
 
 pub returns-in-Parameter : goal.returns-in-Parameter

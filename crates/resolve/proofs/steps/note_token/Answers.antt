@@ -1,5 +1,4 @@
 use Rattle.resolve.proofs.Walking.{noted-name, noted_other}
-use borrow.Author.Rules.{rules}
 use Rattle.resolve.proofs.steps.note_token.Goals as goal
 
 pub returns-then-is_name : goal.returns-then-is_name

@@ -1,5 +1,4 @@
 use Rattle.resolve.proofs.Walking.{out-of-table}
-use borrow.Author.Rules.{rules}
 use Rattle.resolve.proofs.steps.put.Goals as goal
 
 pub returns-then-refs-at : goal.returns-then-refs-at

@@ -1,5 +1,4 @@
 use Rattle.resolve.proofs.Walking.{wrong-count}
-use borrow.Author.Rules.{rules}
 use Rattle.resolve.proofs.steps.wrong_count.Goals as goal
 
 pub returns-in-Ref : goal.returns-in-Ref

@@ -1,7 +1,6 @@
 use Rattle.tokens.proofs.Places.{fits}
 use Rattle.resolve.proofs.Walking.{w-limit, w-nothing, w-token, w-none, w-more, under_low, deeper-low}
 use borrow.Author.Rules.{rules}
-use Prim.Native.Nat.{ℕ, ◌+◌, ◌*◌, ◌<◌}
 use Rattle.resolve.proofs.walk.+look_args_look_expr.Goals as goal
 
 pub look_args-returns-then-left-eq0 : goal.look_args-returns-then-left-eq0

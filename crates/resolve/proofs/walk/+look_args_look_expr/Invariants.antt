@@ -1,7 +1,4 @@
-use Rattle.tokens.proofs.Places.{fits}
-use Rattle.resolve.proofs.Walking.{w-limit, w-nothing, w-token, w-none, w-more, under_low, deeper-low}
-use borrow.Author.Rules.{rules}
-use Prim.Native.Nat.{ℕ, ◌+◌, ◌*◌, ◌<◌}
+use Prim.Native.Nat.{◌+◌, ◌*◌}
 use Rattle.resolve.proofs.walk.+look_args_look_expr.Given as goal
 
 abbrev pub decreases-look_args : goal.decreases-look_args

@@ -1,6 +1,5 @@
 use Rattle.spelling.proofs.Heading.{led-more, led-none}
 use borrow.Author.Rules.{rules}
-use Prim.Native.Nat.{ℕ, ◌<◌}
 use Rattle.spelling.proofs.heads.+leads.Goals as goal
 
 pub returns-then-p-eq0 : goal.returns-then-p-eq0

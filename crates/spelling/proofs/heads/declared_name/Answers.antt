@@ -1,5 +1,4 @@
 use Rattle.spelling.proofs.Heading.{name-there}
-use borrow.Author.Rules.{rules}
 use Rattle.spelling.proofs.heads.declared_name.Goals as goal
 
 pub returns : goal.returns

@@ -1,5 +1,4 @@
 use Rattle.spelling.proofs.Heading.{headed-bound, headed-built-in, headed-instance, headed-literal, headed-name, headed-none, headed-parameter}
-use borrow.Author.Rules.{rules}
 use Rattle.spelling.proofs.heads.head.Goals as goal
 
 pub returns-in-Parameter : goal.returns-in-Parameter

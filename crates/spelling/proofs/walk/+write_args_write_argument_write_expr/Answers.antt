@@ -1,7 +1,5 @@
 use Rattle.spelling.proofs.Walking.{args_more, args_none, argument-wrote, text-token, wrote-limit, wrote_nothing}
 use Rattle.tokens.proofs.Places.{fits}
-use borrow.Author.Rules.{rules}
-use Prim.Native.Nat.{ℕ, ◌+◌, ◌*◌, ◌<◌}
 use Rattle.spelling.proofs.walk.+write_args_write_argument_write_expr.Goals as goal
 
 pub write_args-returns-then-k-eq0 : goal.write_args-returns-then-k-eq0

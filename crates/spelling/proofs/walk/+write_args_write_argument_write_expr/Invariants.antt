@@ -1,7 +1,4 @@
-use Rattle.spelling.proofs.Walking.{args_more, args_none, argument-wrote, text-token, wrote-limit, wrote_nothing}
-use Rattle.tokens.proofs.Places.{fits}
-use borrow.Author.Rules.{rules}
-use Prim.Native.Nat.{ℕ, ◌+◌, ◌*◌, ◌<◌}
+use Prim.Native.Nat.{◌+◌, ◌*◌}
 use Rattle.spelling.proofs.walk.+write_args_write_argument_write_expr.Given as goal
 
 abbrev pub decreases-write_args : goal.decreases-write_args

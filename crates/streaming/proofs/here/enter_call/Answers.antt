@@ -1,6 +1,5 @@
 use Rattle.streaming.proofs.HereCases.{enters, word-inside, word-inside-after}
 use borrow.Author.Rules.{rules}
-use Rattle.streaming.proofs.here.enter_call.Lts as lts
 use Rattle.streaming.proofs.here.enter_call.Goals as goal
 
 pub put_word-requires : goal.put_word-requires

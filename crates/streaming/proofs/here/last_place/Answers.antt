@@ -1,6 +1,5 @@
 use Rattle.streaming.proofs.HereCases.{row_fits, word_fits, word_small}
 use borrow.Author.Rules.{rules}
-use Rattle.streaming.proofs.here.last_place.Lts as lts
 use Rattle.streaming.proofs.here.last_place.Goals as goal
 
 pub overflow_mul-result : goal.overflow_mul-result

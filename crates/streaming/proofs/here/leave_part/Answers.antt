@@ -1,6 +1,4 @@
 use Rattle.streaming.proofs.HereCases.{leaves_all, leaves-argument}
-use borrow.Author.Rules.{rules}
-use Rattle.streaming.proofs.here.leave_part.Lts as lts
 use Rattle.streaming.proofs.here.leave_part.Goals as goal
 
 pub returns-then-s-eq0 : goal.returns-then-s-eq0

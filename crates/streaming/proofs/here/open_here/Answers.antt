@@ -1,6 +1,5 @@
 use Rattle.streaming.proofs.HereCases.{opens-begin, opens-lost}
 use borrow.Author.Rules.{rules}
-use Rattle.streaming.proofs.here.open_here.Lts as lts
 use Rattle.streaming.proofs.here.open_here.Goals as goal
 
 pub returns-then-b-lt-BRACKETS : goal.returns-then-b-lt-BRACKETS

@@ -1,6 +1,5 @@
 use Rattle.streaming.proofs.HereCases.{opens-here, opens-within}
 use borrow.Author.Rules.{rules}
-use Rattle.streaming.proofs.here.pass.Lts as lts
 use Rattle.streaming.proofs.here.pass.Goals as goal
 
 pub returns-then-o : goal.returns-then-o

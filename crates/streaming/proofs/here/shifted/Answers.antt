@@ -1,6 +1,5 @@
 use Rattle.streaming.proofs.HereCases.{narrow-var, shifted-call, shifted-code, shifted-name, shifted-number, shifted-par, shifted-var}
 use borrow.Author.Rules.{rules}
-use Rattle.streaming.proofs.here.shifted.Lts as lts
 use Rattle.streaming.proofs.here.shifted.Goals as goal
 
 pub overflow_cast-result : goal.overflow_cast-result

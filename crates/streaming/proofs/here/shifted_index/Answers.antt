@@ -2,7 +2,6 @@ use Prim.Native.Nat.{◌-◌}
 use native.Mathlib.Omega.{arith}
 use Rattle.streaming.proofs.HereCases.{index-own, index-past}
 use borrow.Author.Rules.{rules}
-use Rattle.streaming.proofs.here.shifted_index.Lts as lts
 use Rattle.streaming.proofs.here.shifted_index.Goals as goal
 
 pub overflow_cast-before : goal.overflow_cast-before

@@ -1,6 +1,5 @@
 use Rattle.streaming.proofs.HereSteps.{enters-call, leaves-part, writes-symbol}
 use borrow.Author.Rules.{rules}
-use Rattle.streaming.proofs.here.step_here.Lts as lts
 use Rattle.streaming.proofs.here.step_here.Goals as goal
 
 pub returns-then-s : goal.returns-then-s

@@ -1,6 +1,5 @@
 use Rattle.streaming.proofs.HereCases.{opened-call, opened-code, opened-name, opened-number, opened-par, opened-var, opens-end, opens-none, opens-same}
 use borrow.Author.Rules.{rules}
-use Rattle.streaming.proofs.here.string_depth.Lts as lts
 use Rattle.streaming.proofs.here.string_depth.Goals as goal
 
 pub returns-in-Par : goal.returns-in-Par

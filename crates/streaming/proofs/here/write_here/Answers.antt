@@ -1,6 +1,5 @@
 use Rattle.streaming.proofs.HereCases.{shifted-narrow, shifted-near, short-room, short-wide, told, writes}
 use borrow.Author.Rules.{rules}
-use Rattle.streaming.proofs.here.write_here.Lts as lts
 use Rattle.streaming.proofs.here.write_here.Goals as goal
 
 pub returns-then-shifts_wide : goal.returns-then-shifts_wide

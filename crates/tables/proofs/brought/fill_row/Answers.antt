@@ -1,6 +1,5 @@
 -- `brought::fill_row`: the row is right from s on.
-use Rattle.tables.proofs.Bringing.{RowFrom, row-end, row_inside, row-size, row-start, row-turn}
-use Rattle.store.specs.Store.{held}
+use Rattle.tables.proofs.Bringing.{row-end, row_inside, row-size, row-start, row-turn}
 use borrow.Author.Rules.{rules}
 use Rattle.tables.proofs.brought.fill_row.Goals as goal
 

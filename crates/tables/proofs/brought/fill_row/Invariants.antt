@@ -1,6 +1,5 @@
-use Rattle.tables.proofs.Bringing.{RowFrom, row-end, row_inside, row-size, row-start, row-turn}
+use Rattle.tables.proofs.Bringing.{RowFrom}
 use Rattle.store.specs.Store.{held}
-use borrow.Author.Rules.{rules}
 use Rattle.tables.proofs.brought.fill_row.Given as goal
 
 abbrev pub invariant-loop-s : goal.invariant-loop-s

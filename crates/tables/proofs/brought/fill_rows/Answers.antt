@@ -1,7 +1,5 @@
 use Prim.Native.Nat.{◌-◌}
-use Rattle.limits.specs.Limits.{max_definitions}
-use Rattle.tables.proofs.Bringing.{RowsFrom, rows_end, rows-same-size, rows-size, rows_start, rows-turn}
-use Rattle.store.specs.Store.{held}
+use Rattle.tables.proofs.Bringing.{rows_end, rows-same-size, rows-size, rows_start, rows-turn}
 use borrow.Author.Rules.{rules}
 use Rattle.tables.proofs.brought.fill_rows.Goals as goal
 

@@ -1,8 +1,7 @@
 use Prim.Native.Nat.{◌-◌}
 use Rattle.limits.specs.Limits.{max_definitions}
-use Rattle.tables.proofs.Bringing.{RowsFrom, rows_end, rows-same-size, rows-size, rows_start, rows-turn}
+use Rattle.tables.proofs.Bringing.{RowsFrom}
 use Rattle.store.specs.Store.{held}
-use borrow.Author.Rules.{rules}
 use Rattle.tables.proofs.brought.fill_rows.Given as goal
 
 abbrev pub invariant-loop-r : goal.invariant-loop-r

@@ -1,9 +1,7 @@
 use Prim.Native.Nat.{◌-◌}
 use Rattle.limits.specs.Limits.{max_definitions}
 use Rattle.tables.specs.Brought.{Represented}
-use Rattle.tables.proofs.Bringing.{represented-end, represented-inside, represented-size, represented-start, represented-turn}
 use Rattle.store.specs.Store.{held}
-use borrow.Author.Rules.{rules}
 use Rattle.tables.proofs.brought.represent.Given as goal
 
 abbrev pub invariant-loop-g : goal.invariant-loop-g

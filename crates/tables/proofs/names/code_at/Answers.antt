@@ -1,6 +1,5 @@
 -- `names::code_at`: 0 stands for none.
 use Rattle.tables.proofs.Naming.{entry-none, entry-some}
-use borrow.Author.Rules.{rules}
 use Rattle.tables.proofs.names.code_at.Goals as goal
 
 pub returns-then-place-eq0 : goal.returns-then-place-eq0

@@ -1,7 +1,6 @@
 -- `names::fill`: the codes from place i on are in the table.
 use Prim.Native.Nat.{◌-◌}
-use Rattle.tables.proofs.Naming.{Placing, placing-end, placing-inside, placing-size, placing-start, placing-turn}
-use Rattle.store.specs.Store.{held}
+use Rattle.tables.proofs.Naming.{placing-end, placing-inside, placing-size, placing-start, placing-turn}
 use borrow.Author.Rules.{rules}
 use Rattle.tables.proofs.names.fill.Goals as goal
 

@@ -1,7 +1,6 @@
 use Prim.Native.Nat.{◌-◌}
-use Rattle.tables.proofs.Naming.{Placing, placing-end, placing-inside, placing-size, placing-start, placing-turn}
+use Rattle.tables.proofs.Naming.{Placing}
 use Rattle.store.specs.Store.{held}
-use borrow.Author.Rules.{rules}
 use Rattle.tables.proofs.names.fill.Given as goal
 
 abbrev pub invariant-loop-i : goal.invariant-loop-i

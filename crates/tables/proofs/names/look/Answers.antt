@@ -1,7 +1,6 @@
 -- `names::look`: only names are looked up.
 use Rattle.resolve.proofs.Looking.{at_bound, at-built-in, at_literal, at-no-token, at-parameter}
 use Rattle.tables.proofs.Naming.{look-instance, look-name}
-use borrow.Author.Rules.{rules}
 use Rattle.tables.proofs.names.look.Goals as goal
 
 pub returns-in-Parameter : goal.returns-in-Parameter

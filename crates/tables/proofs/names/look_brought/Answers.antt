@@ -1,5 +1,4 @@
 use Rattle.resolve.proofs.Looking.{as-brought, not-brought, nothing-brought}
-use borrow.Author.Rules.{rules}
 use Rattle.tables.proofs.names.look_brought.Goals as goal
 
 pub returns-then-first-count-le-DEFINITIONS : goal.returns-then-first-count-le-DEFINITIONS

@@ -1,6 +1,5 @@
 -- `names::look_instance`: the code that was found, or none.
 use Rattle.tables.proofs.Naming.{instance-code, no-instance}
-use borrow.Author.Rules.{rules}
 use Rattle.tables.proofs.names.look_instance.Goals as goal
 
 pub returns-in-At : goal.returns-in-At

@@ -1,5 +1,4 @@
 use Rattle.tables.proofs.Naming.{name-code, no_name}
-use borrow.Author.Rules.{rules}
 use Rattle.tables.proofs.names.look_name.Goals as goal
 
 pub returns-in-At : goal.returns-in-At

@@ -6,7 +6,6 @@ use Rattle.rows.proofs.Numbers.{row-arity}
 use Rattle.tokens.specs.Token.{arguments_of}
 use Rattle.tokens.specs.declared.Token.{Token}
 use Rattle.tokens.specs.declared.Token.TheVariants.{BuiltIn}
-use borrow.Author.Rules.{rules}
 use Rattle.tables.proofs.token.arguments_in.Goals as goal
 
 arity-is : (t : Token) (c h k : ℕ) → t ≡ BuiltIn c → h ≡ row_number c → k ≡ arity_in h → k ≡ arguments_of t

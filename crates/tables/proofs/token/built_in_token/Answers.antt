@@ -7,7 +7,6 @@ use Rattle.rows.specs.Numbers.{arity_in, row_number}
 use Rattle.rows.proofs.Numbers.{row-arity}
 use Rattle.tokens.specs.Token.{built_in}
 use Rattle.tokens.specs.declared.Token.TheVariants.{BuiltIn, NoToken}
-use borrow.Author.Rules.{rules}
 use Rattle.tables.proofs.token.built_in_token.Goals as goal
 
 module _ (c h k : ℕ) (e : h ≡ row_number c) (q : k ≡ arity_in h) where

@@ -1,6 +1,4 @@
 use Prim.Native.Nat.{◌-◌, ◌≤◌}
-use Rattle.templates.proofs.Firsts.{alike-found, alike-itself}
-use borrow.Author.Rules.{rules}
 use Rattle.templates.proofs.alike.first_alike.Given as goal
 
 abbrev pub invariant-loop-f : goal.invariant-loop-f

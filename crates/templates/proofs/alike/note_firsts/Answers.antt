@@ -1,8 +1,6 @@
 -- `alike::note_firsts`: those of the first e declarations have been noted.
-use Rattle.store.specs.Store.{held}
 use Prim.Native.Nat.{◌-◌}
-use Rattle.limits.specs.Limits.{max_declarations}
-use Rattle.templates.proofs.Firsts.{Noting, noting-end, noting-start, noting-turn}
+use Rattle.templates.proofs.Firsts.{noting-end, noting-start, noting-turn}
 use borrow.Author.Rules.{rules}
 use Rattle.templates.proofs.alike.note_firsts.Goals as goal
 

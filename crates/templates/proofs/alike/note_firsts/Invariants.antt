@@ -1,8 +1,7 @@
 use Rattle.store.specs.Store.{held}
 use Prim.Native.Nat.{◌-◌}
 use Rattle.limits.specs.Limits.{max_declarations}
-use Rattle.templates.proofs.Firsts.{Noting, noting-end, noting-start, noting-turn}
-use borrow.Author.Rules.{rules}
+use Rattle.templates.proofs.Firsts.{Noting}
 use Rattle.templates.proofs.alike.note_firsts.Given as goal
 
 abbrev pub invariant-loop-e : goal.invariant-loop-e

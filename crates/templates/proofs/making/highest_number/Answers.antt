@@ -1,10 +1,5 @@
 -- `making::highest_number`: what is left has no higher number than what is found and what is left.
-use Prim.Native.Nat.{◌+◌, ◌-◌, ◌≤◌, max, min}
-use mathlib.Core.Path.{◌≡◌}
-use lib.ListN.{length}
-use Rattle.strings.specs.Read.{string_at}
-use Rattle.templates.specs.Highest.{highest_number}
-use Rattle.templates.specs.Shaped.{shape_count}
+use Prim.Native.Nat.{◌-◌}
 use Rattle.templates.proofs.Highest.{highest-end, highest-turn, most-small}
 use borrow.Author.Rules.{rules}
 use Rattle.templates.proofs.making.highest_number.Goals as goal

@@ -4,8 +4,6 @@ use lib.ListN.{length}
 use Rattle.strings.specs.Read.{string_at}
 use Rattle.templates.specs.Highest.{highest_number}
 use Rattle.templates.specs.Shaped.{shape_count}
-use Rattle.templates.proofs.Highest.{highest-end, highest-turn, most-small}
-use borrow.Author.Rules.{rules}
 use Rattle.templates.proofs.making.highest_number.Given as goal
 
 abbrev pub invariant-loop-i : goal.invariant-loop-i

@@ -1,7 +1,6 @@
 -- `making::make_template`.
 use native.Mathlib.Omega.{arith}
 use Rattle.templates.proofs.Template.{template-made}
-use borrow.Author.Rules.{rules}
 use Rattle.templates.proofs.making.make_template.Goals as goal
 
 pub own_template-requires : goal.own_template-requires

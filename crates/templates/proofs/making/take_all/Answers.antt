@@ -1,11 +1,7 @@
 -- `making::take_all`: the string is that of a term on the way.
-use mathlib.Core.Path.{◌≡◌, refl}
-use lib.ListN.{length}
+use mathlib.Core.Path.{refl}
 use native.Mathlib.Omega.{arith}
-use Rattle.store.specs.Store.{held}
-use Rattle.templates.specs.Shaped.{text_bytes}
-use Rattle.templates.specs.Taking.{work_bytes}
-use Rattle.templates.proofs.Taking.{Underway, underway-end, underway-no, underway-start, underway-turn}
+use Rattle.templates.proofs.Taking.{underway-end, underway-no, underway-start, underway-turn}
 use borrow.Author.Rules.{rules}
 use Rattle.templates.proofs.making.take_all.Goals as goal
 

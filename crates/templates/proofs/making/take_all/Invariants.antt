@@ -1,11 +1,9 @@
-use mathlib.Core.Path.{◌≡◌, refl}
+use mathlib.Core.Path.{◌≡◌}
 use lib.ListN.{length}
-use native.Mathlib.Omega.{arith}
 use Rattle.store.specs.Store.{held}
 use Rattle.templates.specs.Shaped.{text_bytes}
 use Rattle.templates.specs.Taking.{work_bytes}
-use Rattle.templates.proofs.Taking.{Underway, underway-end, underway-no, underway-start, underway-turn}
-use borrow.Author.Rules.{rules}
+use Rattle.templates.proofs.Taking.{Underway}
 use Rattle.templates.proofs.making.take_all.Given as goal
 
 abbrev pub invariant-loop-h : goal.invariant-loop-h

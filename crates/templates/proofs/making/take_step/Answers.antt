@@ -2,7 +2,6 @@
 use mathlib.Core.Path.{refl}
 use native.Mathlib.Omega.{arith}
 use Rattle.templates.proofs.Taking.{step-taken}
-use borrow.Author.Rules.{rules}
 use Rattle.templates.proofs.making.take_step.Goals as goal
 
 pub returns : goal.returns

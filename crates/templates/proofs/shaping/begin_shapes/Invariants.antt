@@ -1,6 +1,5 @@
 use Prim.Native.Nat.{◌-◌}
-use Rattle.templates.proofs.Defining.{Beginning, beginning-end, beginning-start, beginning-turn}
-use borrow.Author.Rules.{rules}
+use Rattle.templates.proofs.Defining.{Beginning}
 use Rattle.templates.proofs.shaping.begin_shapes.Given as goal
 
 abbrev pub invariant-loop-i : goal.invariant-loop-i

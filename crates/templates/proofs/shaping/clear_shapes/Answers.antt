@@ -1,7 +1,6 @@
 -- `shaping::clear_shapes`: the first i shapes are 0.
 use Prim.Native.Nat.{◌-◌}
-use Rattle.limits.specs.Limits.{max_definitions}
-use Rattle.templates.proofs.Defining.{Clearing, clearing-end, clearing-start, clearing-turn}
+use Rattle.templates.proofs.Defining.{clearing-end, clearing-start, clearing-turn}
 use borrow.Author.Rules.{rules}
 use Rattle.templates.proofs.shaping.clear_shapes.Goals as goal
 

@@ -1,7 +1,6 @@
 use Prim.Native.Nat.{◌-◌}
 use Rattle.limits.specs.Limits.{max_definitions}
-use Rattle.templates.proofs.Defining.{Clearing, clearing-end, clearing-start, clearing-turn}
-use borrow.Author.Rules.{rules}
+use Rattle.templates.proofs.Defining.{Clearing}
 use Rattle.templates.proofs.shaping.clear_shapes.Given as goal
 
 abbrev pub invariant-loop-i : goal.invariant-loop-i

@@ -1,7 +1,6 @@
 -- `shaping::prepare`.
 use Rattle.templates.proofs.Defining.{prepared}
 use native.Mathlib.Omega.{arith}
-use borrow.Author.Rules.{rules}
 use Rattle.templates.proofs.shaping.prepare.Goals as goal
 
 pub shape_standins-requires : goal.shape_standins-requires

@@ -1,11 +1,6 @@
 -- `shaping::shape_all`: the shapes of the first d definitions are right.
-use mathlib.Core.Path.{◌≡◌}
-use Prim.Native.Nat.{◌-◌, ◌≤◌}
-use lib.ListN.{length}
-use Rattle.store.specs.Store.{held}
-use Rattle.callees.specs.Walk.{Sized}
-use Rattle.templates.specs.Shaped.{shape_count, text_bytes}
-use Rattle.templates.proofs.Defining.{Defining, defining-end, defining-start, defining-turn}
+use Prim.Native.Nat.{◌-◌}
+use Rattle.templates.proofs.Defining.{defining-end, defining-start, defining-turn}
 use native.Mathlib.Omega.{arith}
 use borrow.Author.Rules.{rules}
 use Rattle.templates.proofs.shaping.shape_all.Goals as goal

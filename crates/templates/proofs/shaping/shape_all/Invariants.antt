@@ -4,9 +4,7 @@ use lib.ListN.{length}
 use Rattle.store.specs.Store.{held}
 use Rattle.callees.specs.Walk.{Sized}
 use Rattle.templates.specs.Shaped.{shape_count, text_bytes}
-use Rattle.templates.proofs.Defining.{Defining, defining-end, defining-start, defining-turn}
-use native.Mathlib.Omega.{arith}
-use borrow.Author.Rules.{rules}
+use Rattle.templates.proofs.Defining.{Defining}
 use Rattle.templates.proofs.shaping.shape_all.Given as goal
 
 abbrev pub invariant-loop-d : goal.invariant-loop-d

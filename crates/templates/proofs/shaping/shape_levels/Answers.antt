@@ -1,10 +1,6 @@
 -- `shaping::shape_levels`: the stand-ins of numbers below m have their shapes.
-use mathlib.Core.Path.{◌≡◌}
 use Prim.Native.Nat.{◌-◌}
-use lib.ListN.{length}
-use Rattle.store.specs.Store.{held}
-use Rattle.templates.specs.Shaped.{text_bytes}
-use Rattle.templates.proofs.Storing.{Storing, storing-end, storing-start, storing-turn}
+use Rattle.templates.proofs.Storing.{storing-end, storing-start, storing-turn}
 use borrow.Author.Rules.{rules}
 use Rattle.templates.proofs.shaping.shape_levels.Goals as goal
 

@@ -3,8 +3,7 @@ use Prim.Native.Nat.{◌-◌}
 use lib.ListN.{length}
 use Rattle.store.specs.Store.{held}
 use Rattle.templates.specs.Shaped.{text_bytes}
-use Rattle.templates.proofs.Storing.{Storing, storing-end, storing-start, storing-turn}
-use borrow.Author.Rules.{rules}
+use Rattle.templates.proofs.Storing.{Storing}
 use Rattle.templates.proofs.shaping.shape_levels.Given as goal
 
 abbrev pub invariant-loop-m : goal.invariant-loop-m
