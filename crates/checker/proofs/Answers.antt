@@ -1,7 +1,7 @@
 -- The reply and the memory are the rules': of a check, and of whatever else is asked of a file.
 use borrow.Author.Tests.{le-ltb, ltb-false, ne_eqb}
 use mathlib.Core.Bool.{Bool, cond, false, true, ◌||◌}
-use mathlib.Core.List.{List, ◌∷◌}
+use mathlib.Core.List.{List, [], ◌∷◌}
 use mathlib.Core.Path.{◌∙◌, ◌≡◌, ap, ap₂, refl, subst, subst⁻¹, sym}
 use Prim.Native.Nat.{ℕ, ◌≤◌, ◌<◌}
 use native.Mathlib.Omega.{arith}
