@@ -14,7 +14,7 @@ use std::io;
 use std::io::{Read, Write};
 
 // How many bytes were read, and how many there were to print.
-#[derive(Drop)]
+#[derive(Clone, Copy)]
 pub struct Listed {
     pub read: usize,
     pub printed: usize,

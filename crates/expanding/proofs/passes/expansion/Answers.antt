@@ -8,10 +8,10 @@ loop-k-init c = (search (rules, going_start), search rules, search rules)
 
 pub loop-k-preserved : goal.loop-k-preserved
 loop-k-preserved c = (
-      going_on _ _ _ _ _ _ _ _ _ _ _ c.loop-k.invariant.0 c.loop-k-test.true _ _ c.replace_calls-r.ensures c.if-r.true (search rules) _ c.highest_call-c.ensures _ c.lesser-k.ensures,
-      search rules,
-      search rules,
-    )
+  going_on _ _ _ _ _ _ _ _ _ _ _ c.loop-k.invariant.0 c.loop-k-test.true _ _ c.replace_calls-r.ensures c.if-r.true (search rules) _ c.highest_call-c.ensures _ c.lesser-k.ensures,
+  search rules,
+  search rules,
+)
 
 pub returns-else-r : goal.returns-else-r
 returns-else-r c = search (rules, going-short)
