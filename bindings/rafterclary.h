@@ -4,9 +4,10 @@
  * is 0. Lent memory must not overlap what is only read, nor other lent memory, and while a call
  * lasts no other thread may touch it, nor write what is read. It is written only as paper 01 says:
  * the card memory, and of that the first 4,096 bytes at most, and the output of an expansion, and
- * of that its length. The tables of a call are on the native stack: 427 KB, of a level query 675
- * KB, of an expansion 1,136 KB, and some tens of KB more for the calls themselves. Of the C library
- * the archive calls memcpy, memmove and memset, and nothing else.
+ * of that its length. The tables of a call are on the native stack. On the stored files a check
+ * used 437 KB of it at most, a query for a level, likeness or a body 693 KB and an expansion 1,128
+ * KB; allow some tens of KB more, for recursion. Of the C library the archive calls memcpy, memmove
+ * and memset, and nothing else.
  *
  * Every call checks the file afresh and fills the card memory, as a check does: an accepted
  * file's cards are there after a query too, whether it is answered or refused.
