@@ -76,7 +76,7 @@ pub fn list_input<R: Read, W: Write>(
     ensures end { IfOk result (λ l. l.read < length input.new → IsAtEnd (R.remaining from.new)) }
     ensures printed { IfOk result (λ l. Appends (W.contents to.old) (W.contents to.new) (listing_of (take l.read input.new))) }
     ensures whole { IfOk result (λ l. IfSome (R.remaining from.old) (λ xs. Appends (W.contents to.old) (W.contents to.new) (listing_of xs))) }
-    ensures err { OnErr result ((text.new ≡ text.old) ⊎ ((n : ℕ) × (n ≤ length input.new) × (text.new ≡ overwrite (listing_of (take n input.new)) text.old))) }
+    ensures err { OnErr result ((n : ℕ) × (n ≤ length input.new) × Consumes (R.remaining from.old) (R.remaining from.new) (take n input.new) × ((text.new ≡ text.old) ⊎ (text.new ≡ overwrite (listing_of (take n input.new)) text.old))) }
 {
     let read = read_full(from, input)?;
     let printed = print_listing_of(input, read, text, to)?;
