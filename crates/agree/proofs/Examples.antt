@@ -6,6 +6,7 @@ use mathlib.Core.Option.{some}
 use Prim.Native.Nat.{ℕ, ◌*◌}
 use lib.ListN.{replicate}
 use lib.Dec.{leb}
+use Rattle.std.specs.Prelude.{None, Some}
 use Rattle.theory.specs.Tree.{node, ⟨⟩, ◌▹◌}
 use Rattle.theory.specs.Level.{row}
 use Rattle.rules.specs.Expression.{Token, parameter, bound_variable, operator, instance_operator, built_in, numeral, expression}
@@ -14,7 +15,6 @@ use Rattle.tokens.specs.Token.{token_at, tagged_at}
 use Rattle.tokens.specs.Expr.{Found, found, none as nothing, expr_at, whole_of}
 use Rattle.tokens.specs.Fold.{fold}
 use Rattle.tokens.specs.Limit.{kept_of}
-use Rattle.tokens.specs.declared.Limit.TheVariants.{Kept, Passed}
 use Rattle.fields.specs.Substitution.{substitution_fits, substitutions_fit}
 use Rattle.fields.specs.Payload.{parts_of, module_part, extends_part, definition_part, instance_part, instance_rest, end_part, theorem_part, all_named}
 use Rattle.fields.specs.Cursor.{step_at, stays, goes}
@@ -117,11 +117,11 @@ unfolding expr_at token_at tagged_at arity_of row
 body-found = refl
 
 -- nesting 2 is found with nesting 2 left, not with 1; an operator of eight arguments is kept, of nine passed
-body_kept : kept_of (expr_at 2 example 16) ≡ Kept 20
+body_kept : kept_of (expr_at 2 example 16) ≡ Some 20
 unfolding expr_at token_at tagged_at arity_of row
 body_kept = refl
 
-body-deep : kept_of (expr_at 1 example 16) ≡ Passed
+body-deep : kept_of (expr_at 1 example 16) ≡ None
 unfolding expr_at token_at tagged_at arity_of row
 body-deep = refl
 
@@ -129,11 +129,11 @@ body-deep = refl
 abbrev many_arguments : ℕ → List ℕ
 many_arguments k = 2 ∷ 0 ∷ 5 ∷ k ∷ replicate (2 * k) 0
 
-eight-arguments : kept_of (expr_at 2 (many_arguments 8) 0) ≡ Kept 20
+eight-arguments : kept_of (expr_at 2 (many_arguments 8) 0) ≡ Some 20
 unfolding expr_at token_at tagged_at arity_of row
 eight-arguments = refl
 
-nine-arguments : kept_of (expr_at 2 (many_arguments 9) 0) ≡ Passed
+nine-arguments : kept_of (expr_at 2 (many_arguments 9) 0) ≡ None
 unfolding expr_at token_at tagged_at arity_of row
 nine-arguments = refl
 

@@ -11,6 +11,7 @@ use lib.Dec.{leb, eqb}
 use lib.ListN.{length, drop, length-append, length-drop, take-append-drop, drop_of_length-le}
 use lib.Seq.{length-take-le}
 use borrow.Author.Tests.{eq-eqb, eqb-true, leb-true, leb-false}
+use Rattle.std.specs.Prelude.{Some}
 use Rattle.theory.specs.Lists.{All, is_some}
 use Rattle.theory.specs.Tree.{Trees, node, ⟨⟩, ◌▹◌, count}
 use Rattle.theory.proofs.Lists.{append-all, split-all}
@@ -18,14 +19,15 @@ use Rattle.rules.specs.Bytes.{when, write_all}
 use Rattle.rules.specs.Expression.{Token, token_arity, write_token, TokenFits, token, Expression, tokens_of, tokens_of_all, LaidAll, expression, nesting, nesting_all}
 use Rattle.laws.proofs.Formats.{clash-none}
 use Rattle.laws.proofs.Expressions.{token-some, expression-there, expression-back, write-append}
-use Rattle.tokens.specs.Token.{token_at, is_token, width_of, arguments_of}
+use Rattle.tokens.specs.Token.{token_at, width_of, arguments_of}
 use Rattle.tokens.specs.Expr.{Expr, Exprs, placed, Found, found, none as nothing, Founds, founds, nones, before, after, several, over, expr_at, ends_at, whole_of}
 use Rattle.tokens.specs.declared.Token.{Token as PlacedToken}
-use Rattle.tokens.proofs.Places.{cases, never}
+use Rattle.tokens.proofs.Places.{never}
+use Rattle.tokens.proofs.Reading.{heads}
 use Rattle.tokens.proofs.Writing.{Bytes, spelled}
 use Rattle.fields.specs.Substitution.{part}
 use Rattle.agree.specs.Trees.{as_token, as_placed, as_tree, as_trees, filling}
-use Rattle.agree.proofs.Tokens.{as-back, is-placed, width-placed, args-placed, spell-as, good-at, token-placed, past-drop}
+use Rattle.agree.proofs.Tokens.{as-back, width-placed, args-placed, spell-as, good-at, token-placed, past-drop}
 
 -- no expression nests deeper than it has bytes
 mutual
@@ -90,11 +92,10 @@ module _ (s : List ℕ) where
   unfolding expr_at
   stands h zero at = tt
   stands h (suc n) at =
-      let t = token_at s at in
-      let p = at + width_of t in
-      cases (Stands s at) (is_token t)
-      (λ i. stand-grown at p (arguments_of t) t (several (expr_at n s) p (arguments_of t)) (good-at s at h i).0 (good-at s at h i).1
-      (spelled s at h i ∙ spell-as t (drop p s) i) (stand-several (expr_at n s) (stands h n) (arguments_of t) p))
+      let follow : PlacedToken → Founds = λ t. several (expr_at n s) (at + width_of t) (arguments_of t) in
+      heads (Stands s at) at (token_at s at) follow
+      (λ t i. stand-grown at (at + width_of t) (arguments_of t) t (follow t) (good-at s at h t i).0 (good-at s at h t i).1
+      (spelled s at h t i ∙ spell-as t (drop (at + width_of t) s)) (stand-several (expr_at n s) (stands h n) (arguments_of t) (at + width_of t)))
       (λ _. tt)
 
   either : {A : Type 0} (b : Bool) → (b ≡ true → A) → (b ≡ false → A) → A
@@ -114,14 +115,14 @@ module _ (s : List ℕ) where
     there (node t es) (suc n) at r f e l =
         let m = write_all token (tokens_of_all es) in
         let q : drop at s ≡ write_token t ++ (m ++ r) = e ∙ append_assoc (write_token t) m r in
-        let x : token_at s at ≡ as_placed t = token-placed s at t (m ++ r) f.1.0 q in
+        let x : token_at s at ≡ Some (as_placed t) = token-placed s at t (m ++ r) f.1.0 q in
         let w : length (write_token t ++ m) ≡ length (write_token t) + length m = length-append (write_token t) m in
         let p : drop (at + length (write_token t)) s ≡ m ++ r = past-drop s at (write_token t) (m ++ r) q in
         let a = theres es n (at + length (write_token t)) r f.0.1 f.1.1 p (omega arith) in
         let k : arguments_of (as_placed t) ≡ count es = sym (args-placed t f.1.0) ∙ sym f.0.0 in
         let z : at + length (write_token t) + length m ≡ at + length (write_token t ++ m) = omega arith in (
           node (placed at (as_placed t)) a.0,
-          rw (x, is-placed t, ← width-placed t, k, a.1, z),
+          rw (x, ← width-placed t, k, a.1, z),
           ap₂ node (as-back t) a.2,
         )
 
@@ -149,10 +150,10 @@ module _ (s : List ℕ) where
     deep (node t es) (suc n) at r f e l =
         let m = write_all token (tokens_of_all es) in
         let q : drop at s ≡ write_token t ++ (m ++ r) = e ∙ append_assoc (write_token t) m r in
-        let x : token_at s at ≡ as_placed t = token-placed s at t (m ++ r) f.1.0 q in
+        let x : token_at s at ≡ Some (as_placed t) = token-placed s at t (m ++ r) f.1.0 q in
         let p : drop (at + length (write_token t)) s ≡ m ++ r = past-drop s at (write_token t) (m ++ r) q in
         let k : arguments_of (as_placed t) ≡ count es = sym (args-placed t f.1.0) ∙ sym f.0.0 in
-        rw (x, is-placed t, ← width-placed t, k, deeps es n (at + length (write_token t)) r f.0.1 f.1.1 p (omega arith))
+        rw (x, ← width-placed t, k, deeps es n (at + length (write_token t)) r f.0.1 f.1.1 p (omega arith))
 
     deeps : (es : Trees Token) (n at : ℕ) (r : List ℕ) → LaidAll es → All TokenFits (tokens_of_all es) → drop at s ≡ write_all token (tokens_of_all es) ++ r → n < nesting_all es
         → several (expr_at n s) at (count es) ≡ nones

@@ -13,7 +13,7 @@ use Rattle.rows.specs.Rows.{binder_number, binder_of}
 use Rattle.tokens.specs.Expr.{Expr, Exprs}
 use Rattle.tokens.specs.Fold.{Algebra, under, fold, folds}
 use Rattle.tokens.specs.declared.Token.{Token as PlacedToken}
-use Rattle.tokens.specs.declared.Token.TheVariants.{Parameter, Bound, Name, InstanceOperator, BuiltIn, Literal, NoToken}
+use Rattle.tokens.specs.declared.Token.TheVariants.{Parameter, Bound, Name, InstanceOperator, BuiltIn, Literal}
 use Rattle.agree.specs.Trees.{as_token, as_tree, as_trees, AllTokens, AllTokensOf}
 use Rattle.agree.specs.Folds.{Folding, within, fold_of, folds_of, in_scope, inner_of, walk, AgreesAt}
 use Rattle.agree.proofs.Codes.{BindsLast, binds-last}
@@ -32,7 +32,6 @@ inner-scope {E} (BuiltIn c) f e = go (code_binder c)
     go (in_body l) = refl
     go (set_then_body l) = refl
 inner-scope (Literal v) f e = refl
-inner-scope NoToken f e = refl
 
 -- a token binds a variable only in its last argument
 last-only : (t : Token) (k : ℕ) → k ≡ token_arity t → BindsLast (token_binder t) k

@@ -9,6 +9,7 @@ use native.Mathlib.Omega.{arith}
 use lib.Dec.{leb, ltb}
 use lib.ListN.{length}
 use borrow.Author.Tests.{le-leb, lt-leb, ltb-true, ltb-false}
+use Rattle.std.specs.Prelude.{None, Some}
 use Rattle.limits.specs.Limits.{max_arity, max_nesting}
 use Rattle.theory.specs.Tree.{node, ⟨⟩, ◌▹◌}
 use Rattle.theory.specs.Level.{binds_in}
@@ -17,10 +18,10 @@ use Rattle.tokens.specs.Token.{written_of}
 use Rattle.tokens.specs.Expr.{Expr, Exprs, expr_at}
 use Rattle.tokens.specs.Limit.{counts_kept, counts_kepts, kept_of}
 use Rattle.tokens.specs.declared.Token.{Token as PlacedToken}
-use Rattle.tokens.specs.declared.Token.TheVariants.{Parameter, Bound, Name, InstanceOperator, BuiltIn, Literal, NoToken}
-use Rattle.tokens.specs.declared.Limit.TheVariants.{Kept, Passed}
+use Rattle.tokens.specs.declared.Token.TheVariants.{Parameter, Bound, Name, InstanceOperator, BuiltIn, Literal}
 use Rattle.fields.specs.Substitution.{part}
-use Rattle.agree.specs.Trees.{as_token, as_tree, as_trees, limit_of}
+use Rattle.agree.specs.Limits.{limit_of}
+use Rattle.agree.specs.Trees.{as_token, as_tree, as_trees}
 use Rattle.agree.proofs.Expressions.{expression-in-file, too-deep-in-file}
 
 at_most : (a b : ℕ) → leb a b ≡ not (ltb b a)
@@ -37,7 +38,6 @@ count_kept (Name n k) = at_most k max_arity
 count_kept (InstanceOperator i n k) = at_most k max_arity
 count_kept (BuiltIn c) = refl
 count_kept (Literal v) = refl
-count_kept NoToken = refl
 
 neither : (a b : Bool) → (not a && not b) ≡ not (a || b)
 neither true b = refl
@@ -56,7 +56,7 @@ mutual
       ap₂ (λ (a b : Bool). a && b) (counts-kept t (s 0 + k)) (all-counts-kept ts k (λ i. s (suc i)))
       ∙ neither (somewhere (λ k t m. over_count t) (s 0 + k) (as_tree t)) (somewheres (λ k t m. over_count t) k (λ i. s (suc i)) (as_trees ts))
 
-turned : (b : Bool) (e : ℕ) → cond (not b) (Kept e) Passed ≡ cond b Passed (Kept e)
+turned : (b : Bool) (e : ℕ) → cond (not b) (Some e) None ≡ cond b None (Some e)
 turned true e = refl
 turned false e = refl
 
@@ -66,29 +66,29 @@ pub limits-agree : (s : List ℕ) (at l : ℕ) (e : Expression) → at + l ≤ l
 limits-agree s at l e h q = go (ltb max_nesting (nesting e)) refl
   where
     go : (b : Bool) → ltb max_nesting (nesting e) ≡ b
-        → kept_of (expr_at max_nesting s at) ≡ cond (b || somewhere (λ k t m. over_count t) 0 e) Passed (Kept (at + l))
+        → kept_of (expr_at max_nesting s at) ≡ cond (b || somewhere (λ k t m. over_count t) 0 e) None (Some (at + l))
     go true d = rw (too-deep-in-file s at l e h q max_nesting (ltb-true max_nesting (nesting e) d))
     go false d =
         let a = expression-in-file s at l e h q max_nesting (ltb-false max_nesting (nesting e) d) in
-        ap kept_of a.1 ∙ ap (λ (b : Bool). cond b (Kept (at + l)) Passed) (counts-kept a.0 0 ∙ ap (λ (x : Expression). not (somewhere (λ k t m. over_count t) 0 x)) a.2)
+        ap kept_of a.1 ∙ ap (λ (b : Bool). cond b (Some (at + l)) None) (counts-kept a.0 0 ∙ ap (λ (x : Expression). not (somewhere (λ k t m. over_count t) 0 x)) a.2)
         ∙ turned (somewhere (λ k t m. over_count t) 0 e) (at + l)
 
 -- both ways round
 module _ (e : Expression) (end : ℕ) where
-  pub kept-within : (x : ℕ) → limit_of e end ≡ Kept x → (over_limit e ≡ false) × (nesting e ≤ max_nesting) × (x ≡ end)
+  pub kept-within : (x : ℕ) → limit_of e end ≡ Some x → (over_limit e ≡ false) × (nesting e ≤ max_nesting) × (x ≡ end)
   kept-within x q = go (over_limit e) refl q
     where
       shallow : (a b : Bool) → ltb max_nesting (nesting e) ≡ a → (a || b) ≡ false → nesting e ≤ max_nesting
       shallow true b d h = absurd (let z : ◌≡◌ {A = ℕ} 0 1 = cc in omega arith)
       shallow false b d h = ltb-false max_nesting (nesting e) d
 
-      go : (b : Bool) → over_limit e ≡ b → cond b Passed (Kept end) ≡ Kept x → (over_limit e ≡ false) × (nesting e ≤ max_nesting) × (x ≡ end)
+      go : (b : Bool) → over_limit e ≡ b → cond b None (Some end) ≡ Some x → (over_limit e ≡ false) × (nesting e ≤ max_nesting) × (x ≡ end)
       go true d h = absurd (let z : ◌≡◌ {A = ℕ} 0 1 = cc in omega arith)
       go false d h = (d, shallow (ltb max_nesting (nesting e)) (somewhere (λ k t m. over_count t) 0 e) refl d, cc)
 
-  pub passed_over : limit_of e end ≡ Passed → over_limit e ≡ true
+  pub passed_over : limit_of e end ≡ None → over_limit e ≡ true
   passed_over q = go (over_limit e) refl q
     where
-      go : (b : Bool) → over_limit e ≡ b → cond b Passed (Kept end) ≡ Passed → over_limit e ≡ true
+      go : (b : Bool) → over_limit e ≡ b → cond b None (Some end) ≡ None → over_limit e ≡ true
       go true d h = d
       go false d h = absurd (let z : ◌≡◌ {A = ℕ} 0 1 = cc in omega arith)

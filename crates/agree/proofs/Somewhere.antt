@@ -12,7 +12,7 @@ use Rattle.theory.specs.Tree.{Trees, node, ⟨⟩, ◌▹◌}
 use Rattle.theory.specs.Level.{binds_in}
 use Rattle.rules.specs.Expression.{Token, token_arity, token_binder, Expression, expression, Laid, LaidAll, nesting, somewhere, somewheres}
 use Rattle.laws.proofs.Expressions.{expression-back}
-use Rattle.tokens.specs.Token.{token_at, arguments_of}
+use Rattle.tokens.specs.Token.{arguments_of}
 use Rattle.tokens.specs.Expr.{Expr, found, expr_at}
 use Rattle.tokens.specs.Fold.{fold, Worth}
 use Rattle.tokens.specs.declared.Token.{Token as PlacedToken}
@@ -58,10 +58,9 @@ module _ (s : List ℕ) (bytes : Bytes s) (at l : ℕ) (x : Expression) (room : 
     (n : ℕ) (deep : nesting x ≤ n) (p : ℕ → Token → ℕ → Bool) (u : ℕ → ℕ → PlacedToken → Bool)
     (same : Between s (λ i t. (k : ℕ) → u k i t ≡ p k (as_token t) (arguments_of t)) at (at + l)) where
   agrees : Between s (AgreesAt (searching u) (testing p)) at (at + l)
-  agrees i a b h =
-      let t = token_at s i in
-      let arity : token_arity (as_token t) ≡ arguments_of t = (good-at s i bytes h).1 in
-      (λ k r. ap (λ (c : Bool). c || r) (same i a b h k ∙ ap (p k (as_token t)) (sym arity)), inner-scope t (λ j. j + 1))
+  agrees i a b t h =
+      let arity : token_arity (as_token t) ≡ arguments_of t = (good-at s i bytes t h).1 in
+      (λ k r. ap (λ (c : Bool). c || r) (same i a b t h k ∙ ap (p k (as_token t)) (sym arity)), inner-scope t (λ j. j + 1))
 
   laid : Laid x
   laid = (expression-back (part s at l) x q).0.0

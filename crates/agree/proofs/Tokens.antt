@@ -10,15 +10,16 @@ use lib.Dec.{T, leb, eqb, leb→le, le→leb}
 use lib.ListN.{length, get_or, drop, length-drop}
 use lib.Seq.{get_or-drop, drop-drop, drop_at}
 use borrow.Author.Tests.{le-leb, ne_eqb, eqb-false}
+use Rattle.std.specs.Prelude.{None, Some}
 use Rattle.rules.specs.Bytes.{Read, cut, got}
 use Rattle.rules.specs.Expression.{Token, parameter, bound_variable, operator, instance_operator, built_in, numeral, token_arity, write_token, TokenFits, token}
 use Rattle.laws.proofs.Expressions.{token-there, token_back}
 use Rattle.rows.specs.Rows.{no_code, arity_of}
-use Rattle.tokens.specs.Token.{token_at, tagged_at, number_at, is_token, width_of, arguments_of}
+use Rattle.tokens.specs.Token.{token_at, tagged_at, number_at, width_of, arguments_of}
 use Rattle.tokens.specs.Expr.{spell}
 use Rattle.tokens.specs.declared.Token.{Token as FileToken}
-use Rattle.tokens.specs.declared.Token.TheVariants.{Parameter, Bound, Name, InstanceOperator, BuiltIn, Literal, NoToken}
-use Rattle.tokens.proofs.Places.{cases, never}
+use Rattle.tokens.specs.declared.Token.TheVariants.{Parameter, Bound, Name, InstanceOperator, BuiltIn, Literal}
+use Rattle.tokens.proofs.Places.{Each, cases, each_fitting, each_none, each_some}
 use Rattle.tokens.proofs.Writing.{Bytes, spelled}
 use Rattle.agree.specs.Trees.{as_token, as_placed}
 use Rattle.agree.proofs.Codes.{code-exists, code-known}
@@ -30,14 +31,6 @@ as-back (operator n k) = refl
 as-back (instance_operator i f k) = refl
 as-back (built_in c) = refl
 as-back (numeral v) = refl
-
-pub is-placed : (t : Token) → is_token (as_placed t) ≡ true
-is-placed (parameter i) = refl
-is-placed (bound_variable j) = refl
-is-placed (operator n k) = refl
-is-placed (instance_operator i f k) = refl
-is-placed (built_in c) = refl
-is-placed (numeral v) = refl
 
 pub width-placed : (t : Token) → length (write_token t) ≡ width_of (as_placed t)
 width-placed (parameter i) = refl
@@ -55,18 +48,17 @@ args-placed (instance_operator i f k) h = refl
 args-placed (built_in c) h = (code-known c h.1).1
 args-placed (numeral v) h = refl
 
-pub spell-as : (t : FileToken) (r : List ℕ) → is_token t ≡ true → spell t r ≡ write_token (as_token t) ++ r
-spell-as (Parameter i) r h = refl
-spell-as (Bound j) r h = refl
-spell-as (Name n k) r h = refl
-spell-as (InstanceOperator i f k) r h = refl
-spell-as (BuiltIn c) r h = refl
-spell-as (Literal v) r h = refl
-spell-as NoToken r h = never h
+pub spell-as : (t : FileToken) (r : List ℕ) → spell t r ≡ write_token (as_token t) ++ r
+spell-as (Parameter i) r = refl
+spell-as (Bound j) r = refl
+spell-as (Name n k) r = refl
+spell-as (InstanceOperator i f k) r = refl
+spell-as (BuiltIn c) r = refl
+spell-as (Literal v) r = refl
 
 -- what is placed fits, and takes as many arguments
 abbrev Good : FileToken → Type 0
-Good t = is_token t ≡ true → TokenFits (as_token t) × (token_arity (as_token t) ≡ arguments_of t)
+Good t = TokenFits (as_token t) × (token_arity (as_token t) ≡ arguments_of t)
 
 two-small : (s : List ℕ) (i : ℕ) → Bytes s → number_at s i < 65536
 two-small s i h = let a = h i in let b = h (i + 1) in omega arith
@@ -76,32 +68,37 @@ one_more zero e = absurd (eqb-false 0 0 e refl)
 one_more (suc n) e = le→leb 1 (suc n) (omega arith)
 
 module _ (s : List ℕ) (at : ℕ) (h : Bytes s) where
-  good-tag : Good (tagged_at s at (get_or s at 0))
+  good-tag : Each Good (tagged_at s at (get_or s at 0))
   unfolding tagged_at
   good-tag =
       let b = get_or s at 0 in
-      cases Good (eqb b 0) (λ e i. (h (at + 1), refl))
-      (λ _. cases Good (eqb b 1) (λ e i. (two-small s (at + 1) h, refl))
-      (λ _. cases Good (eqb b 2)
-      (λ _. cases Good (eqb (number_at s (at + 1)) 0) (λ _ i. never i) (λ z i. (((two-small s (at + 1) h, one_more (number_at s (at + 1)) z), h (at + 3)), refl)))
-      (λ _. cases Good (eqb b 3)
-      (λ _. cases Good (eqb (number_at s (at + 1)) 0) (λ _ i. never i) (λ y. cases Good (eqb (number_at s (at + 3)) 0) (λ _ i. never i)
-      (λ z i. (((two-small s (at + 1) h, one_more (number_at s (at + 1)) y), ((two-small s (at + 3) h, one_more (number_at s (at + 3)) z), h (at + 5))), refl))))
-      (λ _. cases Good (eqb b 4)
-      (λ _. cases Good (eqb (arity_of (get_or s (at + 1) 0)) no_code) (λ _ i. never i)
-      (λ z i. let k = code-exists (get_or s (at + 1) 0) z in ((h (at + 1), k.0), k.1)))
-      (λ _. cases Good (eqb b 5) (λ _ i. (two-small s (at + 1) h, refl))
-      (λ _ i. never i))))))
+      let n = number_at s (at + 1) in
+      let m = number_at s (at + 3) in
+      let c = get_or s (at + 1) 0 in
+      cases (Each Good) (eqb b 0) (λ _. each_some Good (Parameter c) (h (at + 1), refl))
+      (λ _. cases (Each Good) (eqb b 1) (λ _. each_some Good (Bound n) (two-small s (at + 1) h, refl))
+      (λ _. cases (Each Good) (eqb b 2)
+      (λ _. cases (Each Good) (eqb n 0) (λ _. each_none Good)
+      (λ z. each_some Good (Name n (get_or s (at + 3) 0)) (((two-small s (at + 1) h, one_more n z), h (at + 3)), refl)))
+      (λ _. cases (Each Good) (eqb b 3)
+      (λ _. cases (Each Good) (eqb n 0) (λ _. each_none Good)
+      (λ y. cases (Each Good) (eqb m 0) (λ _. each_none Good)
+      (λ z. each_some Good (InstanceOperator n m (get_or s (at + 5) 0)) (((two-small s (at + 1) h, one_more n y), ((two-small s (at + 3) h, one_more m z), h (at + 5))), refl))))
+      (λ _. cases (Each Good) (eqb b 4)
+      (λ _. cases (Each Good) (eqb (arity_of c) no_code) (λ _. each_none Good)
+      (λ z. let k = code-exists c z in each_some Good (BuiltIn c) ((h (at + 1), k.0), k.1)))
+      (λ _. cases (Each Good) (eqb b 5) (λ _. each_some Good (Literal n) (two-small s (at + 1) h, refl))
+      (λ _. each_none Good))))))
 
-  pub good-at : Good (token_at s at)
+  pub good-at : Each Good (token_at s at)
   unfolding token_at
-  good-at = cases Good (leb (at + width_of (tagged_at s at (get_or s at 0))) (length s)) (λ _. good-tag) (λ _ i. never i)
+  good-at = each_fitting Good s at (tagged_at s at (get_or s at 0)) good-tag
 
   -- a token that stands there is what the rules read
-  pub token-read : is_token (token_at s at) ≡ true → token.read (drop at s) ≡ got (as_token (token_at s at)) (drop (at + width_of (token_at s at)) s)
-  token-read i =
-      let r = drop (at + width_of (token_at s at)) s in
-      ap token.read (spelled s at h i ∙ spell-as (token_at s at) r i) ∙ token-there (as_token (token_at s at)) r (good-at i).0
+  pub token-read : (t : FileToken) → token_at s at ≡ Some t → token.read (drop at s) ≡ got (as_token t) (drop (at + width_of t) s)
+  token-read t i =
+      let r = drop (at + width_of t) s in
+      ap token.read (spelled s at h t i ∙ spell-as t r) ∙ token-there (as_token t) r (good-at t i).0
 
 -- a token that is written there stands there
 at_drop : (s : List ℕ) (at i : ℕ) (l : List ℕ) → drop at s ≡ l → get_or s (at + i) 0 ≡ get_or l i 0
@@ -129,7 +126,7 @@ room s at w l e k h =
 nonzero : (n : ℕ) → T (leb 1 n) → eqb n 0 ≡ false
 nonzero n h = let k = leb→le 1 n h in ne_eqb n 0 (λ (z : n ≡ 0). omega arith)
 
-pub token-placed : (s : List ℕ) (at : ℕ) (t : Token) (r : List ℕ) → TokenFits t → drop at s ≡ write_token t ++ r → token_at s at ≡ as_placed t
+pub token-placed : (s : List ℕ) (at : ℕ) (t : Token) (r : List ℕ) → TokenFits t → drop at s ≡ write_token t ++ r → token_at s at ≡ Some (as_placed t)
 unfolding token_at tagged_at
 token-placed s at (parameter i) r f e =
     let a : get_or s at 0 ≡ 0 = first-drop s at _ e in
@@ -161,16 +158,15 @@ token-placed s at (numeral v) r f e =
 
 -- what the rules read as a token stands there as that token, and the rest begins after it
 pub token-stands : (s : List ℕ) (at : ℕ) (t : Token) (r : List ℕ) → token.read (drop at s) ≡ got t r
-    → (token_at s at ≡ as_placed t) × (is_token (token_at s at) ≡ true) × (r ≡ drop (at + width_of (token_at s at)) s)
+    → (token_at s at ≡ Some (as_placed t)) × (r ≡ drop (at + width_of (as_placed t)) s)
 token-stands s at t r e =
     let b = token_back (drop at s) t r e in
-    let p = token-placed s at t r b.0 (sym b.1) in
-    (p, rw p (is-placed t), rw (p, ← width-placed t) (sym (past-drop s at (write_token t) r (sym b.1))))
+    (token-placed s at t r b.0 (sym b.1), rw (← width-placed t) (sym (past-drop s at (write_token t) r (sym b.1))))
 
 -- where no token stands the rules read none
-pub token-cut : (s : List ℕ) (at : ℕ) → is_token (token_at s at) ≡ false → token.read (drop at s) ≡ cut
+pub token-cut : (s : List ℕ) (at : ℕ) → token_at s at ≡ None → token.read (drop at s) ≡ cut
 token-cut s at i = go (token.read (drop at s)) refl
   where
     go : (o : Read Token) → token.read (drop at s) ≡ o → token.read (drop at s) ≡ cut
     go cut q = q
-    go (got t r) q = never (sym i ∙ (token-stands s at t r q).1)
+    go (got t r) q = let e = (token-stands s at t r q).0 in absurd (let z : ◌≡◌ {A = ℕ} 0 1 = cc in omega arith)

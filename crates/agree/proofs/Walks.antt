@@ -2,19 +2,20 @@
 -- positions: it need agree with the fold only at the tokens that stand in that part.
 -- Assumes nothing.
 use mathlib.Core.Path.{◌≡◌, sym, ap, ◌∙◌, subst}
-use mathlib.Core.Bool.{true}
 use mathlib.Core.List.{List}
 use mathlib.Core.Option.{some}
 use Prim.Native.Nat.{ℕ, zero, suc, ◌+◌, ◌≤◌, ◌<◌}
 use native.Mathlib.Omega.{arith}
 use lib.ListN.{length}
+use Rattle.std.specs.Prelude.{Some}
 use Rattle.rules.specs.Expression.{Expression, expression, Laid, nesting}
 use Rattle.laws.proofs.Expressions.{expression-back}
-use Rattle.tokens.specs.Token.{token_at, is_token, width_of, arguments_of}
+use Rattle.tokens.specs.Token.{token_at, width_of, arguments_of}
 use Rattle.tokens.specs.Expr.{Expr, Found, found, none as nothing, Founds, founds, nones, before, after, several, over, expr_at}
 use Rattle.tokens.specs.Fold.{Algebra, fold, Worth}
 use Rattle.tokens.specs.declared.Token.{Token as PlacedToken}
-use Rattle.tokens.proofs.Places.{cases, spans}
+use Rattle.tokens.proofs.Places.{spans}
+use Rattle.tokens.proofs.Reading.{heads}
 use Rattle.fields.specs.Substitution.{part}
 use Rattle.agree.specs.Trees.{as_tree, AllTokens, AllTokensOf}
 use Rattle.agree.specs.Folds.{Folding, fold_of, AgreesAt}
@@ -24,7 +25,7 @@ use Rattle.agree.proofs.Folds.{fold-tree}
 module _ (s : List ℕ) (P : ℕ → PlacedToken → Type 0) where
   -- P holds of the tokens that stand from one position to another
   abbrev pub Between : ℕ → ℕ → Type 0
-  Between from to = (p : ℕ) → from ≤ p → p < to → is_token (token_at s p) ≡ true → P p (token_at s p)
+  Between from to = (p : ℕ) → from ≤ p → p < to → (t : PlacedToken) → token_at s p ≡ Some t → P p t
 
   -- so it holds of those of a tree that is found there
   abbrev Holds : ℕ → Found → Type 0
@@ -47,17 +48,17 @@ module _ (s : List ℕ) (P : ℕ → PlacedToken → Type 0) where
   hold-several f h zero q = (omega arith, λ b. tt)
   hold-several f h (suc k) q = hold-after q (f q) (λ e. several f e k) (h q) (λ e. hold-several f h k e)
 
-  hold-over : (at w : ℕ) (g : Founds) → is_token (token_at s at) ≡ true → 2 ≤ w → HoldAll (at + w) g → Holds at (over at (token_at s at) g)
-  hold-over at w (founds ts e) i l (b, g) = (omega arith, λ h. (h at (omega arith) (omega arith) i, g (λ p j k. h p (omega arith) k)))
-  hold-over at w nones i l u = tt
+  hold-over : (at w : ℕ) (t : PlacedToken) (g : Founds) → token_at s at ≡ Some t → 2 ≤ w → HoldAll (at + w) g → Holds at (over at t g)
+  hold-over at w t (founds ts e) i l (b, g) = (omega arith, λ h. (h at (omega arith) (omega arith) t i, g (λ p j k. h p (omega arith) k)))
+  hold-over at w t nones i l u = tt
 
   holds : (n at : ℕ) → Holds at (expr_at n s at)
   unfolding expr_at
   holds zero at = tt
   holds (suc n) at =
-      let t = token_at s at in
-      cases (Holds at) (is_token t)
-      (λ i. hold-over at (width_of t) (several (expr_at n s) (at + width_of t) (arguments_of t)) i (spans s at i).0 (hold-several (expr_at n s) (holds n) (arguments_of t) (at + width_of t)))
+      let follow : PlacedToken → Founds = λ t. several (expr_at n s) (at + width_of t) (arguments_of t) in
+      heads (Holds at) at (token_at s at) follow
+      (λ t i. hold-over at (width_of t) t (follow t) i (spans s at t i).0 (hold-several (expr_at n s) (holds n) (arguments_of t) (at + width_of t)))
       (λ _. tt)
 
   pub tokens-found : (n at : ℕ) (t : Expr) (e : ℕ) → expr_at n s at ≡ found t e → Between at e → AllTokens P t

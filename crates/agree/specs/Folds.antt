@@ -7,7 +7,7 @@ use Rattle.rules.specs.Expression.{Token, Expression, token_arity, token_binder}
 use Rattle.rows.specs.Rows.{binder_of}
 use Rattle.tokens.specs.Fold.{Algebra}
 use Rattle.tokens.specs.declared.Token.{Token as PlacedToken}
-use Rattle.tokens.specs.declared.Token.TheVariants.{Parameter, Bound, Name, InstanceOperator, BuiltIn, Literal, NoToken}
+use Rattle.tokens.specs.declared.Token.TheVariants.{Parameter, Bound, Name, InstanceOperator, BuiltIn, Literal}
 use Rattle.agree.specs.Trees.{as_token}
 
 -- what a token is worth in an environment, over what its arguments are worth; what an argument list is worth, from its first; and an
@@ -48,7 +48,6 @@ binds_of (Name n k) = 0
 binds_of (InstanceOperator i f k) = 0
 binds_of (BuiltIn c) = binder_of c
 binds_of (Literal v) = 0
-binds_of NoToken = 0
 
 abbrev pub inner_of : {E : Type 0} → PlacedToken → (E → E) → E → E
 inner_of t f e = cond (eqb (binds_of t) 0) e (f e)

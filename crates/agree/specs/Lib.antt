@@ -2,3 +2,4 @@ pub mod Trees
 pub mod Parts
 pub mod Folds
 pub mod Levels
+pub mod Limits

@@ -1,14 +1,12 @@
 -- Tokens and trees by position, as the rules have them. Definitions only.
-use Rattle.std.specs.Prelude.{cond, ℕ, eqb}
+use Rattle.std.specs.Prelude.{ℕ, eqb}
 use Rattle.std.proofs.Math.Option.{Option, none, some}
 use Rattle.theory.specs.Tree.{Trees, node, ⟨⟩, ◌▹◌}
 use Rattle.rules.specs.Bytes.{when}
-use Rattle.rules.specs.Expression.{Token, parameter, bound_variable, operator, instance_operator, built_in, numeral, Expression, over_limit}
+use Rattle.rules.specs.Expression.{Token, parameter, bound_variable, operator, instance_operator, built_in, numeral, Expression}
 use Rattle.tokens.specs.Expr.{Expr, Exprs, Found, found, none as nothing}
-use Rattle.tokens.specs.declared.Limit.{Limit}
-use Rattle.tokens.specs.declared.Limit.TheVariants.{Kept, Passed}
 use Rattle.tokens.specs.declared.Token.{Token as PlacedToken}
-use Rattle.tokens.specs.declared.Token.TheVariants.{Parameter, Bound, Name, InstanceOperator, BuiltIn, Literal, NoToken}
+use Rattle.tokens.specs.declared.Token.TheVariants.{Parameter, Bound, Name, InstanceOperator, BuiltIn, Literal}
 
 -- the same token, as the rules have it and as the code does
 abbrev pub as_token : PlacedToken → Token
@@ -18,7 +16,6 @@ as_token (Name n k) = operator n k
 as_token (InstanceOperator i f k) = instance_operator i f k
 as_token (BuiltIn c) = built_in c
 as_token (Literal v) = numeral v
-as_token NoToken = parameter 0
 
 abbrev pub as_placed : Token → PlacedToken
 as_placed (parameter i) = Parameter i
@@ -50,7 +47,3 @@ abbrev mutual
 abbrev pub filling : ℕ → Found → Option Expression
 filling l (found t e) = when (eqb e l) (some (as_tree t))
 filling l nothing = none
-
--- what the rules make of the limits of an expression, with the position after it
-abbrev pub limit_of : Expression → ℕ → Limit
-limit_of e end = cond (over_limit e) Passed (Kept end)

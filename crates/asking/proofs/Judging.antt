@@ -9,30 +9,27 @@ use borrow.Author.Tests.{le-ltb, leb-false, leb-true, ltb-false}
 use lib.Dec.{eqb, eqb→eq, leb, leb→le, ltb}
 use lib.ListN.{get_or, length}
 use lib.Seq.{take_all}
+use Rattle.std.specs.Prelude.{None, Some, is_none}
 use Rattle.limits.specs.Limits.{max_arity, max_definitions, max_nesting}
 use Rattle.theory.specs.Expand.{arities_of}
 use Rattle.theory.specs.Lists.{All, bind_option, map_option}
 use Rattle.theory.specs.Term.{Head, WellFormed, declared, defined, variable}
-use Rattle.theory.specs.Tree.{node, ⟨⟩, ◌▹◌}
 use Rattle.theory.specs.Level.{IsLevel}
 use Rattle.theory.proofs.Lists.{find-has, or-false}
 use Rattle.rules.specs.Expression.{Expression, TokenFits, expression, nesting, over_count, over_limit, somewhere}
 use Rattle.rules.specs.Field.{Field}
-use Rattle.rules.specs.Judge.{miscounted, unknown}
 use Rattle.rules.specs.State.{Context, Entry, State, brought_named, declares, defines, entry_of_name, head_of, instances, level_of, name_of, operator_named, operator_of, resolve, templates_of}
 use Rattle.laws.proofs.Expressions.{expression-back}
 use Rattle.laws.proofs.Invariant.{clear_in}
-use Rattle.tokens.specs.Expr.{Expr, Exprs, Found, expr_at, found}
+use Rattle.tokens.specs.Expr.{Expr, Found, expr_at, found}
 use Rattle.tokens.specs.Limit.{kept_of, limit_at}
-use Rattle.tokens.specs.Token.{is_token, token_at}
-use Rattle.tokens.specs.declared.Limit.TheVariants.{Kept, Passed}
 use Rattle.tokens.specs.declared.Token.{Token}
-use Rattle.tokens.specs.declared.Token.TheVariants.{Parameter, Bound, Name, InstanceOperator, BuiltIn, Literal, NoToken}
+use Rattle.tokens.specs.declared.Token.TheVariants.{Parameter, Bound, Name, InstanceOperator, BuiltIn, Literal}
 use Rattle.tokens.proofs.Nesting.{limited}
 use Rattle.tokens.proofs.Places.{never as not-true}
 use Rattle.tokens.proofs.Writing.{Bytes}
 use Rattle.fields.specs.Substitution.{part}
-use Rattle.agree.specs.Trees.{AllTokens, AllTokensOf, as_token, as_tree}
+use Rattle.agree.specs.Trees.{AllTokens, as_token, as_tree}
 use Rattle.agree.proofs.Expressions.{expression-in-file}
 use Rattle.agree.proofs.Limits.{limits-agree}
 use Rattle.agree.proofs.Tokens.{good-at}
@@ -42,22 +39,21 @@ use Rattle.texts.specs.Text.{Declarations, no_declaration, ref_head}
 use Rattle.forms.specs.Forms.{level_at}
 use Rattle.context.specs.Holds.{module_no}
 use Rattle.context.specs.Entries.{codes_of}
-use Rattle.store.specs.Store.{Store}
+use Rattle.store.specs.declared.Store.{Store}
 use Rattle.context.specs.declared.Counts.{Counts}
 use Rattle.resolve.specs.Look.{look_in}
 use Rattle.resolve.specs.Meaning.{Means}
 use Rattle.resolve.specs.Walk.{Looks, Notes, number_in, number_of}
+use Rattle.std.specs.Prelude.{Option as Answer, Some, None}
 use Rattle.resolve.specs.declared.Look.{Look}
-use Rattle.resolve.specs.declared.Look.TheVariants.{Ref, NoRef}
 use Rattle.resolve.proofs.Law.{Right, instance-law, name-law, walk-law}
 use Rattle.resolve.proofs.Numbers.{declarations_of, known-context}
 use Rattle.levels.specs.Tables.{scene_of}
 use Rattle.levels.specs.Walk.{TextForm}
-use Rattle.text_levels.proofs.OwnWorld.{RefsBelow, Tokens, TokensAll, own-level}
+use Rattle.text_levels.proofs.OwnWorld.{RefsBelow, own-level}
 use Rattle.worlds.specs.Rows.{Row}
 use Rattle.judge_plain.specs.declared.Phase.{Phase}
 use Rattle.standing.specs.Standing.{Standing, itselves}
-use Rattle.skimming.specs.Kept.{is_passed}
 use Rattle.asking.specs.Asks.{NamesAsked}
 use Rattle.asking.specs.Walk.{names_in, numbers_in}
 use Rattle.asking.proofs.Noting.{Low, Reads, noted-same, reads-below, table-length}
@@ -102,18 +98,10 @@ not-brought none x e = absurd (let z : ◌≡◌ {A = ℕ} 0 1 = cc in omega ari
 not-brought (some g) x e = absurd (let z : ◌≡◌ {A = ℕ} 0 1 = cc in omega arith)
 
 -- the number of an answer that is right is that of a definition or a declaration
-low-look : (s : State) (decls : Declarations) (l : Look) (h : Option Head) → Means s decls l h → (h ≡ some (declared variable 0) → ⊥)
+low-look : (s : State) (decls : Declarations) (l : Answer Look) (h : Option Head) → Means s decls l h → (h ≡ some (declared variable 0) → ⊥)
     → number_of l < max_definitions + length decls
-low-look s decls (Ref r k) h (e, q) never-so = past_head decls r (λ z. never-so (e ∙ ap some z))
-low-look s decls NoRef h e never-so = omega arith
-
-mutual
-  all-tokens : (t : Expr) → AllTokens (λ i x. is_token x ≡ true) t → Tokens t
-  all-tokens (node h ts) (a, b) = (a, alls-tokens ts b)
-
-  alls-tokens : (ts : Exprs) → AllTokensOf (λ i x. is_token x ≡ true) ts → TokensAll ts
-  alls-tokens ⟨⟩ a = tt
-  alls-tokens (t ▹ ts) (a, b) = (all-tokens t a, alls-tokens ts b)
+low-look s decls (Some l) h (e, q) never-so = past_head decls l.number (λ z. never-so (e ∙ ap some z))
+low-look s decls None h e never-so = omega arith
 
 -- the whole list is a part of itself
 part-whole : (xs : List ℕ) → part xs 0 (length xs) ≡ xs
@@ -121,13 +109,13 @@ part-whole [] = refl
 part-whole (x ∷ xs) = take_all (length (x ∷ xs)) (x ∷ xs) (omega arith)
 
 -- 5: the limits
-pub limit-law : (expr : List ℕ) (e : Expression) → expression.read expr ≡ some e → is_passed (limit_at expr 0) ≡ over_limit e
+pub limit-law : (expr : List ℕ) (e : Expression) → expression.read expr ≡ some e → is_none (limit_at expr 0) ≡ over_limit e
 limit-law expr e q =
-    ap is_passed
+    ap is_none
     (sym (limited expr 0 (kept_of (expr_at max_nesting expr 0)) refl)
     ∙ limits-agree expr 0 (length expr) e (omega arith) (ap expression.read (part-whole expr) ∙ q)) ∙ go (over_limit e)
   where
-    go : (b : Bool) → is_passed (cond b Passed (Kept (0 + length expr))) ≡ b
+    go : (b : Bool) → is_none (cond b None (Some (0 + length expr))) ≡ b
     go true = refl
     go false = refl
 
@@ -167,7 +155,7 @@ module _ (file : List ℕ) (fs : List Field) (s : State) (rs : List Row) (v : St
   pub reads : Reads look table tree.0
   reads =
       tokens-found expr (λ i x. is_name x ≡ true → get_or table i 0 ≡ look x) max_nesting 0 tree.0 (0 + length expr) tree.1
-      (λ i a b h _. number-at-token v.names v.facts (codes_of v q) expr i h)
+      (λ i a b t h _. number-at-token v.names v.facts (codes_of v q) expr i t h)
 
   looks : Looks v.names v.facts (codes_of v q) n 0 (expr_at max_nesting expr 0) table table asked.unknown asked.miscounted asked.next
   unfolding Looks Notes
@@ -184,32 +172,27 @@ module _ (file : List ℕ) (fs : List Field) (s : State) (rs : List Row) (v : St
       walk-law v c s stands.holds fs stands.declares stands.origins stands.good q (omega arith) expr bytes 0 (length expr) e (omega arith) in-part
       max_nesting deep n table table wide asked.unknown asked.miscounted asked.next looks
 
-  low-token : (i : ℕ) (t : Token) → is_token t ≡ true → TokenFits (as_token t) → Low look (max_definitions + length decls) i t
-  low-token i (Parameter j) h f z = not-true z
-  low-token i (Bound j) h f z = not-true z
-  low-token i (Name y k) h f z =
+  low-token : (i : ℕ) (t : Token) → TokenFits (as_token t) → Low look (max_definitions + length decls) i t
+  low-token i (Parameter j) f z = not-true z
+  low-token i (Bound j) f z = not-true z
+  low-token i (Name y k) f z =
       low-look s decls (look_in v.names v.facts (codes_of v q) (Name y k)) (operator_named Γ y)
       (name-law v c s stands.holds fs stands.declares stands.origins stands.good q (omega arith) y k)
       (λ z. omega (arith, found_name Γ y 0 z, leb→le 1 y f.0.1))
-  low-token i (InstanceOperator y g k) h f z =
+  low-token i (InstanceOperator y g k) f z =
       low-look s decls (look_in v.names v.facts (codes_of v q) (InstanceOperator y g k)) (head_of s Γ (as_token (InstanceOperator y g k)))
       (instance-law v c s stands.holds fs stands.declares stands.origins stands.good q (omega arith) y g k (leb→le 1 y f.0.1))
       (λ z. not-brought (brought_named s Γ y g) 0 z)
-  low-token i (BuiltIn b) h f z = not-true z
-  low-token i (Literal y) h f z = not-true z
-  low-token i NoToken h f z = not-true h
+  low-token i (BuiltIn b) f z = not-true z
+  low-token i (Literal y) f z = not-true z
 
   pub low : AllTokens (Low look (max_definitions + length decls)) tree.0
   low =
       tokens-found expr (Low look (max_definitions + length decls)) max_nesting 0 tree.0 (0 + length expr) tree.1
-      (λ i a b h. low-token i (token_at expr i) h (good-at expr i bytes h).0)
+      (λ i a b t h. low-token i t (good-at expr i bytes t h).0)
 
   below : RefsBelow (max_definitions + length decls) table tree.0
   below = reads-below tree.0 look (max_definitions + length decls) table reads low
-
-  made-of-tokens : Tokens tree.0
-  made-of-tokens =
-      all-tokens tree.0 (tokens-found expr (λ i x. is_token x ≡ true) max_nesting 0 tree.0 (0 + length expr) tree.1 (λ i a b h. h))
 
   module _ (known : asked.unknown ≡ false) (counted-right : asked.miscounted ≡ false) where
     pub formed : WellFormed (arities_of (templates_of s)) n 0 (resolve s Γ e)
@@ -222,5 +205,5 @@ module _ (file : List ℕ) (fs : List Field) (s : State) (rs : List Row) (v : St
         → All IsLevel ls → level_at form ls ≡ level_of s ls (resolve s Γ e)
     asked-level ls form shown size few a =
         shown.level tree.0 (0 + length expr) tree.1 ls (omega arith) a
-        ∙ own-level table decls (scene_of itselves words) s stands.good stands.forms n ls (omega arith) a tree.0 (resolve s Γ e) made-of-tokens below
+        ∙ own-level table decls (scene_of itselves words) s stands.good stands.forms n ls (omega arith) a tree.0 (resolve s Γ e) below
         (asked-right.resolved known tree.0 (0 + length expr) tree.1) formed

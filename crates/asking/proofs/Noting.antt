@@ -22,8 +22,9 @@ use Rattle.agree.specs.Trees.{AllTokens, AllTokensOf}
 use Rattle.skimming.specs.Kept.{KeptWorth}
 use Rattle.skimming.proofs.Keeping.{kept-worth}
 use Rattle.asking.specs.Asks.{NamesAsked, name_cause}
-use Rattle.asking.specs.Walk.{Judged, numbers_in}
+use Rattle.asking.specs.Walk.{Answered, numbers_in, number_there}
 use Rattle.asking.specs.declared.Walked.{Walked}
+use Rattle.store.specs.declared.Facts.{Facts}
 
 -- the table says of every name what `look` says
 abbrev pub Reads : (Token → ℕ) → List ℕ → Expr → Type 0
@@ -50,9 +51,9 @@ mutual
   noteds-same ⟨⟩ look refs r = refl
   noteds-same (t ▹ ts) look refs (a, b) = ap (noteds look ts) (noted-same t look refs a) ∙ noteds-same ts look refs b
 
-pub table-length : (names facts cs s : List ℕ) → length (numbers_in names facts cs s) ≡ length s
+pub table-length : (names : List ℕ) (facts : List Facts) (cs s : List ℕ) → length (numbers_in names facts cs s) ≡ length s
 unfolding numbers_in
-table-length names facts cs s = length-map (numbers_from 0 (length s)) (λ i. number_in names facts cs (token_at s i)) ∙ numbers-length 0 (length s)
+table-length names facts cs s = length-map (numbers_from 0 (length s)) (λ i. number_there names facts cs (token_at s i)) ∙ numbers-length 0 (length s)
 
 -- numbers below a bound are read below it
 abbrev pub Low : (Token → ℕ) → ℕ → ℕ → Token → Type 0
@@ -71,13 +72,13 @@ empty : (xs : List ℕ) → length xs ≡ 0 → [] ≡ xs
 empty [] e = refl
 empty (x ∷ xs) e = absurd (omega arith)
 
-notes-none : (names facts cs : List ℕ) (x : Found) → Notes names facts cs x [] []
+notes-none : (names : List ℕ) (facts : List Facts) (cs : List ℕ) (x : Found) → Notes names facts cs x [] []
 unfolding Notes
 notes-none names facts cs (found t e) = empty (noted (number_in names facts cs) t []) (noted-length t (number_in names facts cs) [])
 notes-none names facts cs none = refl
 
 -- a walk that keeps the limits answers causes 9 and 10
-pub kept-asked : (names facts cs : List ℕ) (p : ℕ) (s : List ℕ) (kept u w : Bool) (x : ℕ)
+pub kept-asked : (names : List ℕ) (facts : List Facts) (cs : List ℕ) (p : ℕ) (s : List ℕ) (kept u w : Bool) (x : ℕ)
     → KeptWorth (searching (unknown_in names facts cs p)) 0 (expr_at max_nesting s 0) kept u x
     → KeptWorth (searching (miscounted_in names facts cs)) 0 (expr_at max_nesting s 0) kept w x → kept ≡ true
     → (r : ℕ) → r ≡ name_cause u w → NamesAsked names facts cs p (expr_at max_nesting s 0) r
@@ -96,7 +97,7 @@ kept-asked names facts cs p s kept u w x hu hw k r e = record {
   cause = e;
 }
 
-pub names-asked : (names facts cs words : List ℕ) (p : ℕ) (s : List ℕ) (w : Walked) → Judged names facts cs words p s w → w.kept ≡ true
+pub names-asked : (names : List ℕ) (facts : List Facts) (cs words : List ℕ) (p : ℕ) (s : List ℕ) (w : Walked) → Answered names facts cs words p s w
     → (r : ℕ) → r ≡ name_cause w.looked.unknown w.looked.miscounted → NamesAsked names facts cs p (expr_at max_nesting s 0) r
-names-asked names facts cs words p s w h k r e =
-    kept-asked names facts cs p s w.kept w.looked.unknown w.looked.miscounted w.looked.next h.causes.unknown h.causes.miscounted k r e
+names-asked names facts cs words p s w h r e =
+    kept-asked names facts cs p s true w.looked.unknown w.looked.miscounted w.looked.next h.causes.unknown h.causes.miscounted refl r e

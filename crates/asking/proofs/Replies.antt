@@ -1,4 +1,5 @@
 -- Each reply of the level query is the rules'.
+use Rattle.std.specs.Prelude.{Option as Answer, None, Some, Result, Ok}
 use borrow.Author.Tests.{leb-false, ltb-false}
 use mathlib.Core.Bool.{Bool, cond, false, not, true}
 use mathlib.Core.List.{List, [], ◌∷◌}
@@ -8,6 +9,7 @@ use Prim.Native.Nat.{ℕ, zero, suc, ◌<◌, ◌≤◌}
 use native.Mathlib.Omega.{arith}
 use lib.Dec.{eqb, leb, ltb}
 use lib.ListN.{get_or-append, get_or, get_elem?, length}
+use Rattle.std.specs.Prelude.{is_none}
 use Rattle.limits.specs.Limits.{level_count, max_arity, max_nesting}
 use Rattle.theory.specs.Lists.{All, any, is_some}
 use Rattle.theory.specs.Term.{Term}
@@ -32,19 +34,21 @@ use Rattle.levels.specs.Walk.{TextForm}
 use Rattle.context.specs.Holds.{Holds, module_no}
 use Rattle.context.specs.Parts.{part, place_of}
 use Rattle.context.specs.Entries.{context_codes}
-use Rattle.store.specs.Store.{Store}
+use Rattle.store.specs.declared.Store.{Store}
+use Rattle.store.specs.declared.Facts.{Facts}
 use Rattle.context.specs.declared.Counts.{Counts}
 use Rattle.context.proofs.Lookups.{module-law}
 use Rattle.worlds.specs.Rows.{Row}
 use Rattle.judge_plain.specs.declared.Phase.{Phase}
 use Rattle.standing.specs.Standing.{Standing}
-use Rattle.skimming.specs.Kept.{is_passed}
 use Rattle.asking.specs.Asks.{Asks, AsksIn, NamesAsked, kept_reply, levels_cause, limit_cause, name_cause, reply_of}
 use Rattle.asking.specs.Walk.{Judged, names_in}
 use Rattle.asking.specs.declared.Walked.{Walked}
-use Rattle.asking.specs.declared.Asked.{Asked}
-use Rattle.asking.specs.declared.Asked.TheVariants.{Level, Refused}
+use Rattle.refusals.specs.declared.Refusal.{Refusal}
+use Rattle.refusals.specs.Outcomes.{refused}
 use Rattle.asking.proofs.Judging.{asked-level, asked-right, limit-law}
+use Rattle.resolve.specs.declared.Looked.{Looked}
+use Rattle.skimming.specs.Skims.{Skims}
 use Rattle.skimming.proofs.Ends.{kept_whole}
 use Rattle.skimming.proofs.Keeping.{kept-passed}
 use Rattle.asking.proofs.Noting.{names-asked}
@@ -122,7 +126,7 @@ none-spelt (some e) h = never h
 -- causes 3 and 5 of the bytes and the levels given; 0 if none holds
 reading_cause : List ℕ → List ℕ → ℕ
 reading_cause levels expr =
-    cond (whole_of expr) (three (any (λ l. leb level_count l) levels) (ltb max_arity (length levels)) (is_passed (limit_at expr 0))) 3
+    cond (whole_of expr) (three (any (λ l. leb level_count l) levels) (ltb max_arity (length levels)) (is_none (limit_at expr 0))) 3
 
 module _ (levels expr : List ℕ) (bytes : Bytes expr) where
   -- of an expression that is spelt
@@ -157,7 +161,7 @@ told a b d = cond b 3 (cond d (cond a 5 3) 0)
 module _ (levels expr : List ℕ) where
   levels-tell : (levels_cause levels expr ≡ 0 → ⊥) → reading_cause levels expr ≡ levels_cause levels expr
   unfolding levels_cause limit_cause reading_cause
-  levels-tell z = go (whole_of expr) (any (λ l. leb level_count l) levels) (ltb max_arity (length levels)) (is_passed (limit_at expr 0)) z
+  levels-tell z = go (whole_of expr) (any (λ l. leb level_count l) levels) (ltb max_arity (length levels)) (is_none (limit_at expr 0)) z
     where
       go : (a b d x : Bool) → (told a b d ≡ 0 → ⊥) → cond a (three b d x) 3 ≡ told a b d
       go true true d x h = refl
@@ -176,7 +180,7 @@ module _ (levels expr : List ℕ) where
       go false false true h = absurd (omega arith)
       go a false false h = (refl, refl)
 
-  bytes_left : levels_cause levels expr ≡ 0 → reading_cause levels expr ≡ cond (whole_of expr) (cond (is_passed (limit_at expr 0)) 5 0) 3
+  bytes_left : levels_cause levels expr ≡ 0 → reading_cause levels expr ≡ cond (whole_of expr) (cond (is_none (limit_at expr 0)) 5 0) 3
   unfolding reading_cause
   bytes_left z = let f = few-right z in rw (f.0, f.1) refl
 
@@ -185,7 +189,7 @@ module _ (v : Store) (words : List ℕ) (m fields : ℕ) (levels expr : List ℕ
   abbrev names : List ℕ
   names = v.names
 
-  abbrev facts : List ℕ
+  abbrev facts : List Facts
   facts = v.facts
 
   abbrev contexts : List ℕ
@@ -202,7 +206,7 @@ module _ (v : Store) (words : List ℕ) (m fields : ℕ) (levels expr : List ℕ
   as_read s o e = ap (λ (o : Option Expression). and_then (read_in s (module_no s m) levels (length levels) o) (End s)) (sym e)
 
   -- 3 and 5
-  reply-reading : (r : ℕ) → r ≡ reading_cause levels expr → (r ≡ 0 → ⊥) → AsksIn v words m fields levels expr (Refused r fields)
+  reply-reading : (r : ℕ) → r ≡ reading_cause levels expr → (r ≡ 0 → ⊥) → AsksIn v words m fields levels expr (refused r fields)
   reply-reading r is-r h = record { reply = λ file fs s rs c p refs stands ended e. go s (e ∙ stands.holds.fields) (whole_of expr) refl }
     where
       go : (s : State) → fields ≡ s.fields → (b : Bool) → whole_of expr ≡ b
@@ -237,7 +241,7 @@ module _ (v : Store) (words : List ℕ) (m fields : ℕ) (levels expr : List ℕ
         asked.cause ∙ ap₂ two right.cause-9 right.cause-10
 
     -- 9 and 10
-    reply-names : (k ≡ 0 → ⊥) → AsksIn v words m fields levels expr (Refused k fields)
+    reply-names : (k ≡ 0 → ⊥) → AsksIn v words m fields levels expr (refused k fields)
     reply-names h = record {
       reply = λ file fs s rs c p refs stands ended f.
           let law = names-law file fs s rs c p refs stands ended in
@@ -257,7 +261,7 @@ module _ (v : Store) (words : List ℕ) (m fields : ℕ) (levels expr : List ℕ
 
     -- the level
     reply-level : k ≡ 0 → (form : ℕ) → TextForm (names_in names facts (context_codes contexts heads m) words expr) expr 0 form
-        → AsksIn v words m fields levels expr (Level (level_at form levels))
+        → AsksIn v words m fields levels expr (Ok (level_at form levels))
     reply-level z form shown = record {
       reply = λ file fs s rs c p refs stands ended _.
           let a = answers z in
@@ -271,42 +275,50 @@ module _ (v : Store) (words : List ℕ) (m fields : ℕ) (levels expr : List ℕ
     }
 
   -- by the levels alone
-  pub reply-levels : (r : ℕ) → r ≡ levels_cause levels expr → (r ≡ 0 → ⊥) → AsksIn v words m fields levels expr (Refused r fields)
+  pub reply-levels : (r : ℕ) → r ≡ levels_cause levels expr → (r ≡ 0 → ⊥) → AsksIn v words m fields levels expr (refused r fields)
   reply-levels r is-r h = reply-reading r (is-r ∙ sym (levels-tell levels expr (λ z. h (is-r ∙ z)))) h
 
-  module _ (clear : levels_cause levels expr ≡ 0) (w : Walked) (judged : Judged names facts (context_codes contexts heads m) words (length levels) expr w) where
+  module _ (clear : levels_cause levels expr ≡ 0) where
+    abbrev Shown : Answer Walked → Type 0
+    Shown w = Judged names facts (context_codes contexts heads m) words (length levels) expr w
+
     abbrev G : Algebra ℕ Bool Bool
     G = searching (unknown_in names facts (context_codes contexts heads m) (length levels))
 
-    passed : is_passed (limit_at expr 0) ≡ not w.kept
-    passed =
-        ap is_passed (sym (limited expr 0 (kept_of (expr_at max_nesting expr 0)) refl))
-        ∙ kept-passed G 0 (expr_at max_nesting expr 0) w.kept w.looked.unknown w.looked.next judged.causes.unknown
+    passed : (kept : Bool) (l : Looked) → Skims names facts (context_codes contexts heads m) (length levels) 0 (expr_at max_nesting expr 0) kept l
+        → is_none (limit_at expr 0) ≡ not kept
+    passed kept l h =
+        ap is_none (sym (limited expr 0 (kept_of (expr_at max_nesting expr 0)) refl))
+        ∙ kept-passed G 0 (expr_at max_nesting expr 0) kept l.unknown l.next h.unknown
 
     -- a walk that passes a limit
-    reading-passed : w.kept ≡ false → reading_cause levels expr ≡ limit_cause expr
+    reading-passed : Shown None → reading_cause levels expr ≡ limit_cause expr
     unfolding limit_cause
-    reading-passed k = bytes_left levels expr clear ∙ rw (passed ∙ ap not k) refl
+    reading-passed h =
+        let l : Looked = record { next = 0; unknown = false; miscounted = false } in
+        bytes_left levels expr clear ∙ rw (passed false l (h l)) refl
 
     -- a walk that keeps them
-    reading-kept : w.kept ≡ true → reading_cause levels expr ≡ cond (eqb w.looked.next (length expr)) 0 3
-    reading-kept k =
-        bytes_left levels expr clear ∙ rw (passed ∙ ap not k, kept_whole G 0 expr w.kept w.looked.unknown w.looked.next judged.causes.unknown k) refl
+    module _ (w : Walked) (judged : Shown (Some w)) where
+      reading-kept : reading_cause levels expr ≡ cond (eqb w.looked.next (length expr)) 0 3
+      reading-kept =
+          bytes_left levels expr clear
+          ∙ rw (passed true w.looked judged.causes, kept_whole G 0 expr true w.looked.unknown w.looked.next judged.causes.unknown refl) refl
 
-    asked : (kept : w.kept ≡ true) (k : ℕ) → k ≡ name_cause w.looked.unknown w.looked.miscounted
-        → NamesAsked names facts (context_codes contexts heads m) (length levels) (expr_at max_nesting expr 0) k
-    asked kept k e = names-asked names facts (context_codes contexts heads m) words (length levels) expr w judged kept k e
+      asked : (k : ℕ) → k ≡ name_cause w.looked.unknown w.looked.miscounted
+          → NamesAsked names facts (context_codes contexts heads m) (length levels) (expr_at max_nesting expr 0) k
+      asked k e = names-asked names facts (context_codes contexts heads m) words (length levels) expr w judged k e
 
-    reply-all-kept : w.kept ≡ true → reading_cause levels expr ≡ 0 → AsksIn v words m fields levels expr (kept_reply levels w fields)
-    unfolding kept_reply name_cause
-    reply-all-kept k z = go w.looked.unknown refl w.looked.miscounted refl
-      where
-        go : (u : Bool) → w.looked.unknown ≡ u → (d : Bool) → w.looked.miscounted ≡ d
-            → AsksIn v words m fields levels expr (cond u (Refused 9 fields) (cond d (Refused 10 fields) (Level (level_at w.form levels))))
-        go true eu d ed = reply-names z 9 (asked k 9 (rw eu refl)) (λ z. omega arith)
-        go false eu true ed = reply-names z 10 (asked k 10 (rw (eu, ed) refl)) (λ z. omega arith)
-        go false eu false ed =
-            reply-level z 0 (asked k 0 (rw (eu, ed) refl)) refl w.form (judged.level k)
+      reply-all-kept : reading_cause levels expr ≡ 0 → AsksIn v words m fields levels expr (kept_reply levels w fields)
+      unfolding kept_reply name_cause
+      reply-all-kept z = go w.looked.unknown refl w.looked.miscounted refl
+        where
+          go : (u : Bool) → w.looked.unknown ≡ u → (d : Bool) → w.looked.miscounted ≡ d
+              → AsksIn v words m fields levels expr (cond u (refused 9 fields) (cond d (refused 10 fields) (Ok (level_at w.form levels))))
+          go true eu d ed = reply-names z 9 (asked 9 (rw eu refl)) (λ z. omega arith)
+          go false eu true ed = reply-names z 10 (asked 10 (rw (eu, ed) refl)) (λ z. omega arith)
+          go false eu false ed =
+              reply-level z 0 (asked 0 (rw (eu, ed) refl)) refl w.form judged.level
 
     some-cause : limit_cause expr ≡ 0 → ⊥
     unfolding limit_cause
@@ -316,20 +328,19 @@ module _ (v : Store) (words : List ℕ) (m fields : ℕ) (levels expr : List ℕ
         go true h = omega arith
         go false h = omega arith
 
-    pub reply-walked : (r : Asked) → r ≡ reply_of levels expr w fields → AsksIn v words m fields levels expr r
+    pub reply-walked : (w : Answer Walked) → Shown w → (r : Result ℕ Refusal) → r ≡ reply_of levels expr w fields → AsksIn v words m fields levels expr r
     unfolding reply_of
-    reply-walked r q = subst (AsksIn v words m fields levels expr) (sym q) (go w.kept refl (eqb w.looked.next (length expr)) refl)
+    reply-walked None h r q = subst (AsksIn v words m fields levels expr) (sym q) (reply-reading (limit_cause expr) (sym (reading-passed h)) some-cause)
+    reply-walked (Some w) h r q = subst (AsksIn v words m fields levels expr) (sym q) (go (eqb w.looked.next (length expr)) refl)
       where
-        go : (a : Bool) → w.kept ≡ a → (b : Bool) → eqb w.looked.next (length expr) ≡ b
-            → AsksIn v words m fields levels expr (cond a (cond b (kept_reply levels w fields) (Refused 3 fields)) (Refused (limit_cause expr) fields))
-        go false k b e = reply-reading (limit_cause expr) (sym (reading-passed k)) some-cause
-        go true k true e = reply-all-kept k (reading-kept k ∙ rw e refl)
-        go true k false e = reply-reading 3 (sym (reading-kept k ∙ rw e refl)) (λ z. omega arith)
+        go : (b : Bool) → eqb w.looked.next (length expr) ≡ b → AsksIn v words m fields levels expr (cond b (kept_reply levels w fields) (refused 3 fields))
+        go true e = reply-all-kept w h (reading-kept w h ∙ rw e refl)
+        go false e = reply-reading 3 (sym (reading-kept w h ∙ rw e refl)) (λ z. omega arith)
 
 -- The reply by a module's name n.
 module _ (v : Store) (words : List ℕ) (c : Counts) (n : ℕ) (levels expr : List ℕ) (q : ℕ) (place : q ≡ place_of n (part v.heads 0 c.modules)) where
   -- 17
-  pub reply-no-module : c.modules ≤ q → Asks v words c n levels expr (Refused 17 0)
+  pub reply-no-module : c.modules ≤ q → Asks v words c n levels expr (refused 17 0)
   reply-no-module h = record {
     reply = λ file fs s rs p refs stands.
         ap (λ (o : Option Module). and_then (and_then (or_no_such o) (λ M. read_in s M levels (length levels) (expression.read expr))) (λ t. result (level_of s levels t)))
@@ -337,7 +348,7 @@ module _ (v : Store) (words : List ℕ) (c : Counts) (n : ℕ) (levels expr : Li
   }
 
   -- the reply in the module found
-  pub reply-there : (r : Asked) → q < c.modules → AsksIn v words q c.fields levels expr r
+  pub reply-there : (r : Result ℕ Refusal) → q < c.modules → AsksIn v words q c.fields levels expr r
       → Asks v words c n levels expr r
   reply-there r ended a = record {
     reply = λ file fs s rs p refs stands.

@@ -1,3 +1,2 @@
-pub mod Reply
 pub mod Asks
 pub mod Walk

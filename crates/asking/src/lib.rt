@@ -9,69 +9,72 @@ pub mod walk;
 ghost use Rattle.std.specs.Prelude.{◌≡◌, ◌≤◌, length};
 ghost use Rattle.limits.specs.Limits.{max_modules};
 ghost use Rattle.asking.specs.Asks.{Asks, AsksIn, kept_reply, levels_cause, reply_of};
-ghost use Rattle.store.specs.Store.{held};
 
 use crate::reading::{levels_cause, limit_cause};
 use crate::walk::judge;
 use context::Counts;
 use context::lookup::find_module;
 use forms::levels::level;
+use refusals::Refusal;
 use resolve::Looked;
 use store::{Lent, Store};
 
-// The reply: a level, 0 to 4; or the cause of a refusal and its place.
-#[derive(Clone, Copy)]
-pub enum Asked {
-    Level(u8),
-    Refused(u8, usize),
-}
-
-// Whether an expression keeps the limits; and if it does, the form of its level, whether its names are known and rightly counted, and the position
-// after it.
+// Of an expression that keeps the limits: the form of its level, whether its names are known and rightly counted, and the position after it.
 #[derive(Clone, Copy)]
 pub struct Walked {
-    pub kept: bool,
     pub form: u64,
     pub looked: Looked,
 }
 
 // The reply to bytes that are one expression and keep the limits, by what a walk found. The place of a refusal is the number of fields.
-fn kept_reply(levels: &[u8], w: Walked, fields: usize) -> Asked
+fn kept_reply(levels: &[u8], w: Walked, fields: usize) -> Result<u8, Refusal>
     ensures { result ≡ kept_reply levels.now w fields }
 {
     if w.looked.unknown {
-        return Asked::Refused(9, fields);
+        return Err(Refusal {
+            cause: 9,
+            place: fields,
+        });
     }
     if w.looked.miscounted {
-        return Asked::Refused(10, fields);
+        return Err(Refusal {
+            cause: 10,
+            place: fields,
+        });
     }
-    Asked::Level(level(w.form, levels))
+    Ok(level(w.form, levels))
 }
 
 // The same to any bytes: a walk that keeps the limits tells by its end whether they are one expression, and only another needs them read apart.
-fn reply_of(expr: &[u8], levels: &[u8], w: Walked, fields: usize) -> Asked
+fn reply_of(expr: &[u8], levels: &[u8], w: Option<Walked>, fields: usize) -> Result<u8, Refusal>
     ensures { result ≡ reply_of levels.now expr.now w fields }
 {
-    if w.kept {
-        if w.looked.next == expr.len() {
-            return kept_reply(levels, w, fields);
-        }
-        return Asked::Refused(3, fields);
+    let Some(w) = w else {
+        return Err(Refusal {
+            cause: limit_cause(expr),
+            place: fields,
+        });
+    };
+    if w.looked.next == expr.len() {
+        return kept_reply(levels, w, fields);
     }
-    Asked::Refused(limit_cause(expr), fields)
+    Err(Refusal {
+        cause: 3,
+        place: fields,
+    })
 }
 
 // The reply in module m, at most eight levels being given.
 fn walked_reply(
     expr: &[u8],
     levels: &[u8],
-    store: &[u16; Store::LENGTH],
+    store: &Store,
     words: &[u64; Lent::WORDS],
     m: usize,
     fields: usize,
-) -> Asked
+) -> Result<u8, Refusal>
     requires { (m ≤ max_modules) × (levels_cause levels.now expr.now ≡ 0) }
-    ensures { AsksIn (held store.now) words.now m fields levels.now expr.now result }
+    ensures { AsksIn store.now words.now m fields levels.now expr.now result }
 {
     let w = judge(expr, store, words, m, levels.len());
     reply_of(expr, levels, w, fields)
@@ -81,17 +84,20 @@ fn walked_reply(
 fn reply_in(
     expr: &[u8],
     levels: &[u8],
-    store: &[u16; Store::LENGTH],
+    store: &Store,
     words: &[u64; Lent::WORDS],
     m: usize,
     fields: usize,
-) -> Asked
+) -> Result<u8, Refusal>
     requires { m ≤ max_modules }
-    ensures { AsksIn (held store.now) words.now m fields levels.now expr.now result }
+    ensures { AsksIn store.now words.now m fields levels.now expr.now result }
 {
     let cause = levels_cause(expr, levels);
     if cause != 0 {
-        return Asked::Refused(cause, fields);
+        return Err(Refusal {
+            cause,
+            place: fields,
+        });
     }
     walked_reply(expr, levels, store, words, m, fields)
 }
@@ -102,16 +108,19 @@ pub fn level_reply(
     expr: &[u8],
     levels: &[u8],
     module: u16,
-    store: &[u16; Store::LENGTH],
+    store: &Store,
     words: &[u64; Lent::WORDS],
     c: Counts,
-) -> Asked
+) -> Result<u8, Refusal>
     requires { c.modules ≤ max_modules }
-    ensures { Asks (held store.now) words.now c «module» levels.now expr.now result }
+    ensures { Asks store.now words.now c «module» levels.now expr.now result }
 {
     let q = find_module(store, c.modules, module);
     if c.modules <= q {
-        return Asked::Refused(17, 0);
+        return Err(Refusal {
+            cause: 17,
+            place: 0,
+        });
     }
     reply_in(expr, levels, store, words, q, c.fields)
 }

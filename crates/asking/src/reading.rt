@@ -1,7 +1,7 @@
 // Causes 3 and 5 of a query.
 ghost use Rattle.std.specs.Prelude.{◌≡◌, leb};
 ghost use Rattle.limits.specs.Limits.{level_count};
-ghost use Rattle.theory.specs.Lists.{any};
+ghost use Rattle.std.specs.List.{list_any};
 ghost use Rattle.asking.specs.Asks.{levels_cause, limit_cause};
 
 use limits::Limits;
@@ -9,16 +9,9 @@ use tokens::whole;
 
 // Whether one of the levels given is none.
 fn level_above(levels: &[u8]) -> bool
-    ensures { result ≡ any (λ l. leb level_count l) levels.now }
+    ensures { result ≡ list_any (λ l. leb level_count l) levels.now }
 {
-    let mut i: usize = 0;
-    while i < levels.len() {
-        if (Limits::LEVELS as u8) <= levels[i] {
-            return true;
-        }
-        i += 1;
-    }
-    false
+    levels.iter().any(|l| (Limits::LEVELS as u8) <= *l)
 }
 
 // Where a limit is passed: 5, if the bytes are one expression.

@@ -1,17 +1,16 @@
-// What a token of a query's expression says where it stands: whether it keeps the limits, whether it is unknown or miscounted, and its level.
+// What a token of a query's expression says where it stands: whether it is unknown or miscounted, and its level; nothing where it passes a limit.
 ghost use Rattle.std.specs.Prelude.{◌≡◌, false, ◌||◌, ◌-◌, ◌^◌, ◌<◌};
-ghost use Rattle.rows.specs.Numbers.{row_column};
 ghost use Rattle.context.specs.Parts.{part};
 ghost use Rattle.resolve.specs.Walk.{miscounted_at, unknown_at, word_count};
 ghost use Rattle.tables.specs.Serves.{Serves};
 ghost use Rattle.asking.specs.Walk.{Beside, CodeAt, NamedBy, Over, ParameterAt, Steps, Told};
-ghost use Rattle.store.specs.Store.{held};
 
 use levels::names::form_at;
 use levels::steps::{bound_step, built_in_step, head_step, literal_step, parameter_step};
 use limits::Limits;
 use resolve::steps::{both, number_of, with_args};
 use resolve::{Ask, Look, Looked};
+use rows::RowColumn;
 use skimming::{ContextAt, bound_inside};
 use store::{Lent, Store};
 use tables::names::look;
@@ -34,11 +33,10 @@ pub struct Reached {
     pub looked: Looked,
 }
 
-// Whether a token keeps the limits; if it does, how many arguments follow and the labels that it gives them, the variables bound in the last of
-// them, the form with the token's own level added, and what is known after it.
+// Of a token that keeps the limits: how many arguments follow and the labels that it gives them, the variables bound in the last of them, the
+// form with the token's own level added, and what is known after it.
 #[derive(Clone, Copy)]
 pub struct Step {
-    pub kept: bool,
     pub count: u8,
     pub inner: Scope,
     pub labels: u64,
@@ -46,26 +44,11 @@ pub struct Step {
     pub looked: Looked,
 }
 
-// A token that passes a limit, or none.
-fn no_step(e: Scope, form: u64, a: Looked) -> Step
-    ensures { (result.kept ≡ false) × (result.count ≡ 0) × (result.inner.bound ≡ e.bound) }
-{
-    Step {
-        kept: false,
-        count: 0,
-        inner: e,
-        labels: 0,
-        form,
-        looked: a,
-    }
-}
-
 // What is said of the level, and beside it what is said of the names.
 fn beside(t: levels::steps::Step, bound: usize, looked: Looked) -> Step
     ensures { Beside t bound looked result }
 {
     Step {
-        kept: t.ok,
         count: t.count,
         inner: Scope {
             bits: t.inner,
@@ -78,7 +61,7 @@ fn beside(t: levels::steps::Step, bound: usize, looked: Looked) -> Step
 }
 
 // What is known after a token, from what is known before it.
-fn known(t: Token, l: Look, params: usize, bound: usize, a: Looked, next: usize) -> Looked
+fn known(t: Token, l: Option<Look>, params: usize, bound: usize, a: Looked, next: usize) -> Looked
     ensures { (result.next ≡ next) × (result.unknown ≡ unknown_at params bound t l || a.unknown) × (result.miscounted ≡ miscounted_at t l || a.miscounted) }
 {
     let ask = Ask {
@@ -97,7 +80,7 @@ fn known(t: Token, l: Look, params: usize, bound: usize, a: Looked, next: usize)
 // A name that means what l says.
 fn name_step(
     words: &[u64; Lent::WORDS],
-    l: Look,
+    l: Option<Look>,
     count: u8,
     bits: u64,
     label: u8,
@@ -114,73 +97,69 @@ fn name_step(
 // A token that means what l says, if it is a name.
 fn token_step(
     words: &[u64; Lent::WORDS],
-    column: &[u16],
+    column: &RowColumn,
     t: Token,
-    l: Look,
+    l: Option<Look>,
     bits: u64,
     label: u8,
     form: u64,
     next: usize,
-) -> levels::steps::Step
-    requires { (column.now ≡ row_column) × (label < 8) × (bits < 2 ^ 63) }
+) -> Option<levels::steps::Step>
+    requires { (label < 8) × (bits < 2 ^ 63) }
     ensures { Told words.now l t bits label form next result }
 {
     match t {
-        Token::Parameter(i) => parameter_step(0, i, bits, label, form, next),
-        Token::Bound(j) => bound_step(0, j, bits, label, form, next),
-        Token::Name(_, k) => name_step(words, l, k, bits, label, form, next),
-        Token::InstanceOperator(_, _, k) => name_step(words, l, k, bits, label, form, next),
+        Token::Parameter(i) => Some(parameter_step(0, i, bits, label, form, next)),
+        Token::Bound(j) => Some(bound_step(0, j, bits, label, form, next)),
+        Token::Name(_, k) => Some(name_step(words, l, k, bits, label, form, next)),
+        Token::InstanceOperator(_, _, k) => Some(name_step(words, l, k, bits, label, form, next)),
         Token::BuiltIn(code) => built_in_step(column, code, bits, label, form, next),
-        Token::Literal(n) => literal_step(0, n, bits, label, form, next),
-        Token::NoToken => levels::steps::no_step(bits, form, next),
+        Token::Literal(n) => Some(literal_step(0, n, bits, label, form, next)),
     }
 }
 
 // A token that keeps the limits.
 fn over(
-    column: &[u16],
+    column: &RowColumn,
     tables: &[u8],
-    store: &[u16; Store::LENGTH],
+    store: &Store,
     words: &[u64; Lent::WORDS],
     p: ContextAt,
     x: Reached,
     t: Token,
     next: usize,
-) -> Step
-    requires { (column.now ≡ row_column) × Serves (held store.now) tables.now p.from p.end × (x.scope.bits < 2 ^ 63) × (x.scope.bound < word_count) × (x.label < 8) }
-    ensures { Over (held store.now).names (held store.now).facts (part (held store.now).contexts p.from (p.end - p.from)) words.now p.params t x.scope x.label x.form x.looked next result }
+) -> Option<Step>
+    requires { Serves store.now tables.now p.from p.end × (x.scope.bits < 2 ^ 63) × (x.scope.bound < word_count) × (x.label < 8) }
+    ensures { Over store.now.names store.now.facts (part store.now.contexts p.from (p.end - p.from)) words.now p.params t x.scope x.label x.form x.looked next result }
 {
     let e = x.scope;
-    let bound = bound_inside(column, t, e.bound);
     let l = look(store, tables, p.from, p.end, t);
-    let y = token_step(words, column, t, l, e.bits, x.label, x.form, next);
+    let y = token_step(words, column, t, l, e.bits, x.label, x.form, next)?;
+    let bound = bound_inside(column, t, e.bound);
     let b = known(t, l, p.params, e.bound, x.looked, next);
-    beside(y, bound, b)
+    Some(beside(y, bound, b))
 }
 
 // The token at the position that is reached, of whatever kind.
 fn any_step(
     s: &[u8],
-    column: &[u16],
+    column: &RowColumn,
     tables: &[u8],
-    store: &[u16; Store::LENGTH],
+    store: &Store,
     words: &[u64; Lent::WORDS],
     p: ContextAt,
     x: Reached,
-) -> Step
-    requires { (column.now ≡ row_column) × Serves (held store.now) tables.now p.from p.end × (x.scope.bits < 2 ^ 63) × (x.scope.bound < word_count) × (x.label < 8) }
-    ensures { Steps (held store.now).names (held store.now).facts (part (held store.now).contexts p.from (p.end - p.from)) words.now p.params s.now x.scope x.label x.form x.looked result }
+) -> Option<Step>
+    requires { Serves store.now tables.now p.from p.end × (x.scope.bits < 2 ^ 63) × (x.scope.bound < word_count) × (x.label < 8) }
+    ensures { Steps store.now.names store.now.facts (part store.now.contexts p.from (p.end - p.from)) words.now p.params s.now x.scope x.label x.form x.looked result }
 {
     let at = x.looked.next;
-    let t = token_in(s, column, at);
-    if tokens::is_token(t) {
-        if (Limits::ARITY as u8) < arguments_in(column, t) {
-            return no_step(x.scope, x.form, x.looked);
-        }
-        let next = at + tokens::width(t);
-        return over(column, tables, store, words, p, x, t, next);
+    let t = token_in(s, column, at)?;
+    if (Limits::ARITY as u8) < arguments_in(column, t) {
+        return None;
     }
-    no_step(x.scope, x.form, x.looked)
+    let next = at + tokens::width(t);
+    over(column, tables, store, words, p, x, t, next)
 }
 
 // A parameter.
@@ -206,34 +185,40 @@ fn parameter_at(
 }
 
 // A built-in, if there is one of that code.
-fn code_at(column: &[u16], code: u8, e: Scope, label: u8, form: u64, a: Looked, next: usize) -> Step
-    requires { (column.now ≡ row_column) × (e.bits < 2 ^ 63) × (e.bound < word_count) × (label < 8) }
+fn code_at(
+    column: &RowColumn,
+    code: u8,
+    e: Scope,
+    label: u8,
+    form: u64,
+    a: Looked,
+    next: usize,
+) -> Option<Step>
+    requires { (e.bits < 2 ^ 63) × (e.bound < word_count) × (label < 8) }
     ensures { CodeAt code e label form a next result }
 {
-    let x = built_in_step(column, code, e.bits, label, form, next);
-    if x.ok {
-        let b = Looked {
-            next,
-            unknown: a.unknown,
-            miscounted: a.miscounted,
-        };
-        return beside(x, bound_inside(column, Token::BuiltIn(code), e.bound), b);
-    }
-    no_step(e, form, a)
+    let x = built_in_step(column, code, e.bits, label, form, next)?;
+    let b = Looked {
+        next,
+        unknown: a.unknown,
+        miscounted: a.miscounted,
+    };
+    let bound = bound_inside(column, Token::BuiltIn(code), e.bound);
+    Some(beside(x, bound, b))
 }
 
 // The token at the position that is reached, quicker at a parameter and at a built-in.
 pub fn next_step(
     s: &[u8],
-    column: &[u16],
+    column: &RowColumn,
     tables: &[u8],
-    store: &[u16; Store::LENGTH],
+    store: &Store,
     words: &[u64; Lent::WORDS],
     p: ContextAt,
     x: Reached,
-) -> Step
-    requires { (column.now ≡ row_column) × Serves (held store.now) tables.now p.from p.end × (x.scope.bits < 2 ^ 63) × (x.scope.bound < word_count) × (x.label < 8) }
-    ensures { Steps (held store.now).names (held store.now).facts (part (held store.now).contexts p.from (p.end - p.from)) words.now p.params s.now x.scope x.label x.form x.looked result }
+) -> Option<Step>
+    requires { Serves store.now tables.now p.from p.end × (x.scope.bits < 2 ^ 63) × (x.scope.bound < word_count) × (x.label < 8) }
+    ensures { Steps store.now.names store.now.facts (part store.now.contexts p.from (p.end - p.from)) words.now p.params s.now x.scope x.label x.form x.looked result }
 {
     let at = x.looked.next;
     if at < s.len() {
@@ -241,7 +226,9 @@ pub fn next_step(
             let byte = s[at + 1];
             let tag = s[at];
             if tag == 0 {
-                return parameter_at(p.params, byte, x.scope, x.label, x.form, x.looked, at + 2);
+                let e = x.scope;
+                let y = parameter_at(p.params, byte, e, x.label, x.form, x.looked, at + 2);
+                return Some(y);
             }
             if tag == 4 {
                 return code_at(column, byte, x.scope, x.label, x.form, x.looked, at + 2);

@@ -1,15 +1,13 @@
-// One walk over a query's expression: whether it keeps the limits, whether its names are known and rightly counted, and the form of its level. It
+// One walk over a query's expression: if it keeps the limits, whether its names are known and rightly counted, and the form of its level. It
 // goes down with the label of the place, and adds each node's level to the form. Each name is looked up where it stands.
-ghost use Rattle.std.specs.Prelude.{◌≡◌, false, ◌-◌, ◌^◌, ◌<◌, ◌≤◌};
+ghost use Rattle.std.specs.Prelude.{◌≡◌, ◌-◌, ◌^◌, ◌<◌, ◌≤◌};
 ghost use Rattle.limits.specs.Limits.{max_arity, max_modules};
-ghost use Rattle.rows.specs.Numbers.{row_column};
 ghost use Rattle.tokens.specs.Expr.{expr_at, several};
 ghost use Rattle.tokens.specs.Fold.{under_of};
 ghost use Rattle.context.specs.Parts.{part};
 ghost use Rattle.context.specs.Entries.{context_codes, word_count};
 ghost use Rattle.tables.specs.Serves.{Serves};
 ghost use Rattle.asking.specs.Walk.{AllJudged, Judged, Roomy};
-ghost use Rattle.store.specs.Store.{held};
 
 use crate::Walked;
 use crate::steps::{Reached, Scope, next_step};
@@ -17,8 +15,8 @@ use forms::Form;
 use levels::first_label;
 use limits::Limits;
 use resolve::steps::{both, nothing};
+use rows::RowColumn;
 use skimming::ContextAt;
-use store::reading::head_at;
 use store::{Lent, Store};
 use tables::{Long, Tables};
 
@@ -47,30 +45,19 @@ fn scope(k: u8, around: Scope, within: Scope) -> Scope
     if k == 1 { within } else { around }
 }
 
-// Where a limit is passed.
-fn stopped(at: usize) -> Walked
-    ensures { result.kept ≡ false }
-{
-    Walked {
-        kept: false,
-        form: 0,
-        looked: nothing(at),
-    }
-}
-
-// Adds at most eight arguments from a position on. Where one is left, its own arguments are what is left.
+// Adds at most eight arguments from a position on; none where a limit is passed. Where one is left, its own arguments are what is left.
 fn walk_args(
     s: &[u8],
-    column: &[u16],
+    column: &RowColumn,
     tables: &[u8],
-    store: &[u16; Store::LENGTH],
+    store: &Store,
     words: &[u64; Lent::WORDS],
     p: ContextAt,
     g: Args,
     u: Under,
-) -> Walked
-    requires { (column.now ≡ row_column) × Serves (held store.now) tables.now p.from p.end × Roomy g.nest u × (g.count ≤ max_arity) }
-    ensures { AllJudged (held store.now).names (held store.now).facts (part (held store.now).contexts p.from (p.end - p.from)) words.now p.params s.now u g.form (several (expr_at g.nest s.now) g.at g.count) result }
+) -> Option<Walked>
+    requires { Serves store.now tables.now p.from p.end × Roomy g.nest u × (g.count ≤ max_arity) }
+    ensures { AllJudged store.now.names store.now.facts (part store.now.contexts p.from (p.end - p.from)) words.now p.params s.now u g.form (several (expr_at g.nest s.now) g.at g.count) result }
 {
     let mut a = nothing(g.at);
     let mut form = g.form;
@@ -82,7 +69,7 @@ fn walk_args(
     let mut labels = u.labels;
     while k != 0 {
         if nest == 0 {
-            return stopped(g.at);
+            return None;
         }
         let e = scope(k, around, within);
         let l = first_label(label, labels);
@@ -92,68 +79,57 @@ fn walk_args(
             form,
             looked: a,
         };
-        let t = next_step(s, column, tables, store, words, p, x);
-        if t.kept {
-            a = t.looked;
-            form = t.form;
-            let last = t.inner;
-            if t.count == 0 {
-                k -= 1;
-                labels = labels / 8;
-                continue;
-            }
-            if k == 1 {
-                k = t.count;
-                nest -= 1;
-                around = e;
-                within = last;
-                label = l;
-                labels = t.labels;
-                continue;
-            }
-            let inner = Under {
-                around: e,
-                within: last,
-                label: l,
-                labels: t.labels,
-            };
-            let args = Args {
-                at: a.next,
-                count: t.count,
-                nest: nest - 1,
-                form,
-            };
-            let b = walk_args(s, column, tables, store, words, p, args, inner);
-            if b.kept {
-                a = both(a, b.looked);
-                form = b.form;
-                k -= 1;
-                labels = labels / 8;
-                continue;
-            }
-            return stopped(g.at);
+        let t = next_step(s, column, tables, store, words, p, x)?;
+        a = t.looked;
+        form = t.form;
+        let last = t.inner;
+        if t.count == 0 {
+            k -= 1;
+            labels = labels / 8;
+            continue;
         }
-        return stopped(g.at);
+        if k == 1 {
+            k = t.count;
+            nest -= 1;
+            around = e;
+            within = last;
+            label = l;
+            labels = t.labels;
+            continue;
+        }
+        let inner = Under {
+            around: e,
+            within: last,
+            label: l,
+            labels: t.labels,
+        };
+        let args = Args {
+            at: a.next,
+            count: t.count,
+            nest: nest - 1,
+            form,
+        };
+        let b = walk_args(s, column, tables, store, words, p, args, inner)?;
+        a = both(a, b.looked);
+        form = b.form;
+        k -= 1;
+        labels = labels / 8;
     }
-    Walked {
-        kept: true,
-        form,
-        looked: a,
-    }
+    Some(Walked { form, looked: a })
 }
 
 // The expression that the bytes begin with, by tables or none.
 fn judge_with(
     s: &[u8],
     tables: &[u8],
-    store: &[u16; Store::LENGTH],
+    store: &Store,
     words: &[u64; Lent::WORDS],
     p: ContextAt,
-) -> Walked
-    requires { Serves (held store.now) tables.now p.from p.end }
-    ensures { Judged (held store.now).names (held store.now).facts (part (held store.now).contexts p.from (p.end - p.from)) words.now p.params s.now result }
+) -> Option<Walked>
+    requires { Serves store.now tables.now p.from p.end }
+    ensures { Judged store.now.names store.now.facts (part store.now.contexts p.from (p.end - p.from)) words.now p.params s.now result }
 {
-    let column = rows::row_column();
+    let column = RowColumn::new();
     let e = Scope { bits: 0, bound: 0 };
     let u = Under {
         around: e,
@@ -171,27 +147,17 @@ fn judge_with(
 }
 
 // The same with no tables, which costs less where the expression is short.
-fn judge_short(
-    s: &[u8],
-    store: &[u16; Store::LENGTH],
-    words: &[u64; Lent::WORDS],
-    p: ContextAt,
-) -> Walked
+fn judge_short(s: &[u8], store: &Store, words: &[u64; Lent::WORDS], p: ContextAt) -> Option<Walked>
     requires { p.from < 2 ^ 32 }
-    ensures { Judged (held store.now).names (held store.now).facts (part (held store.now).contexts p.from (p.end - p.from)) words.now p.params s.now result }
+    ensures { Judged store.now.names store.now.facts (part store.now.contexts p.from (p.end - p.from)) words.now p.params s.now result }
 {
     judge_with(s, &s[..0], store, words, p)
 }
 
 // The same with the tables filled.
-fn judge_long(
-    s: &[u8],
-    store: &[u16; Store::LENGTH],
-    words: &[u64; Lent::WORDS],
-    p: ContextAt,
-) -> Walked
+fn judge_long(s: &[u8], store: &Store, words: &[u64; Lent::WORDS], p: ContextAt) -> Option<Walked>
     requires { (p.from < 2 ^ 32) × (p.from ≤ p.end) × (p.end - p.from < word_count) }
-    ensures { Judged (held store.now).names (held store.now).facts (part (held store.now).contexts p.from (p.end - p.from)) words.now p.params s.now result }
+    ensures { Judged store.now.names store.now.facts (part store.now.contexts p.from (p.end - p.from)) words.now p.params s.now result }
 {
     let mut tables = [0u8; Tables::BYTES];
     tables::fill(store, &mut tables, p.from, p.end);
@@ -201,16 +167,16 @@ fn judge_long(
 // The expression that the bytes begin with, in the context of module m, so many parameters being known.
 pub fn judge(
     s: &[u8],
-    store: &[u16; Store::LENGTH],
+    store: &Store,
     words: &[u64; Lent::WORDS],
     m: usize,
     params: usize,
-) -> Walked
+) -> Option<Walked>
     requires { m ≤ max_modules }
-    ensures { Judged (held store.now).names (held store.now).facts (context_codes (held store.now).contexts (held store.now).heads m) words.now params s.now result }
+    ensures { Judged store.now.names store.now.facts (context_codes store.now.contexts store.now.heads m) words.now params s.now result }
 {
     let from = m * Limits::CONTEXT;
-    let count = head_at(store, Limits::PLACES + m) as usize;
+    let count = store.head_at(Limits::PLACES + m) as usize;
     let p = ContextAt {
         from,
         end: from + count,

@@ -5,14 +5,14 @@
 // the whole output. Ends where the input does, or at a number that is more than there is room for.
 #![tactic(auto)]
 
-ghost use Rattle.std.specs.Prelude.{◌≤◌, ◌<◌, IfOk, length};
+ghost use Rattle.std.specs.Prelude.{◌≤◌, length};
 
 use list_file::Input;
 use rafterclary::{rafterclary_alike, rafterclary_body, rafterclary_expand, rafterclary_level};
-use reading::read_full;
+use records::{checksum, mark, next_number, read_part};
 use std::io;
 use std::io::Read;
-use unpacking::{Number, Span, Truth, unpack, unpack_span, unpack_truth};
+use unpacking::{Refusal, unpack, unpack_span, unpack_truth};
 
 #[derive(Drop)]
 struct Room;
@@ -28,86 +28,26 @@ impl Room {
     const OUTPUT: usize = 66000;
 }
 
-fn wide(x: u8) -> usize
-    ensures { result ≤ 255 }
-{
-    x as usize
-}
-
-// The number that comes next, or one that there is no room for where the input ends.
-fn next_number(from: &mut impl Read) -> io::Result<usize>
-    ensures { IfOk result (λ n. n ≤ 16777215) }
-{
-    let mut head = [0u8; 3];
-    let got = read_full(from, &mut head)?;
-    if got < 3 {
-        return Ok(16777215);
-    }
-    Ok(65536 * wide(head[0]) + 256 * wide(head[1]) + wide(head[2]))
-}
-
-// Reads a part after its length: the length, or a number that there is no room for.
-fn read_part(from: &mut impl Read, space: &mut [u8]) -> io::Result<usize> {
-    let size = next_number(from)?;
-    if space.len() < size {
-        return Ok(size);
-    }
-    let part = &mut space[..size];
-    let got = read_full(from, part)?;
-    if got < size {
-        return Ok(16777215);
-    }
-    Ok(size)
-}
-
-// No byte before a call is 0 or a level, and none is as the byte beside it.
-fn mark(memory: &mut [u8]) {
-    for (i, byte) in memory.iter_mut().enumerate() {
-        *byte = 128 + (i % 64) as u8;
-    }
-}
-
-fn checksum(memory: &[u8]) -> usize
-    ensures { result < 65521 }
-{
-    let mut s: usize = 0;
-    for byte in memory {
-        s = (s * 31 + wide(*byte)) % 65521;
-    }
-    s
-}
-
-// A word that ends in a space, a number and a space.
-fn print_number(to: &impl Print, word: &str, x: u64) -> io::Result<()> {
-    print!(to; "{word}{x} ")
-}
-
-fn print_refusal(to: &impl Print, c: u64, p: u64) -> io::Result<()> {
-    print_number(to, "refused ", c)?;
-    print_number(to, "", p)
-}
-
-fn print_reply(to: &impl Print, reply: Number) -> io::Result<()> {
+// A number, a level or a length; or the refusal; and a space.
+fn print_reply(to: &impl Print, reply: Result<u32, Refusal<u32>>) -> io::Result<()> {
     match reply {
-        Number::Result(n) => print_number(to, "ok ", n as u64),
-        Number::Refused(c, p) => print_refusal(to, c as u64, p as u64),
+        Ok(n) => print!(to; "ok {n} "),
+        Err(r) => print!(to; "{r} "),
     }
 }
 
-fn print_truth(to: &impl Print, reply: Truth) -> io::Result<()> {
+// 1 is yes, 0 is no.
+fn print_truth(to: &impl Print, reply: Result<bool, Refusal<u32>>) -> io::Result<()> {
     match reply {
-        Truth::Result(b) => print_number(to, "ok ", if b { 1 } else { 0 }),
-        Truth::Refused(c, p) => print_refusal(to, c as u64, p as u64),
+        Ok(alike) => print!(to; "ok {} ", u8::from(alike)),
+        Err(r) => print!(to; "{r} "),
     }
 }
 
-fn print_span(to: &impl Print, reply: Span) -> io::Result<()> {
+fn print_span(to: &impl Print, reply: Result<(u64, u64), Refusal<u64>>) -> io::Result<()> {
     match reply {
-        Span::Result(start, size) => {
-            print_number(to, "ok ", start)?;
-            print_number(to, "", size)
-        }
-        Span::Refused(c, p) => print_refusal(to, c, p),
+        Ok((start, size)) => print!(to; "ok {start} {size} "),
+        Err(r) => print!(to; "{r} "),
     }
 }
 
@@ -193,8 +133,7 @@ fn expand_in(
         &mut out[..room],
     );
     print_reply(to, unpack(reply))?;
-    print_number(to, "", checksum(memory) as u64)?;
-    println!(to; "{}", checksum(out))
+    println!(to; "{} {}", checksum(memory), checksum(out))
 }
 
 // Reads the output's length, which ends a record, and asks; whether there was one.
@@ -213,7 +152,9 @@ fn ask_into(
 ) -> io::Result<bool>
     requires { (first ≤ 16777215) × (second ≤ 16777215) × (lent ≤ length memory.old) }
 {
-    let room = next_number(from)?;
+    let Some(room) = next_number(from)? else {
+        return Ok(false);
+    };
     if out.len() < room {
         return Ok(false);
     }
@@ -241,10 +182,9 @@ fn ask_expression(
 ) -> io::Result<bool>
     requires { (first ≤ 16777215) × (second ≤ 16777215) × (lent ≤ length memory.old) }
 {
-    let size = read_part(from, expr)?;
-    if expr.len() < size {
+    let Some(size) = read_part(from, expr)? else {
         return Ok(false);
-    }
+    };
     ask_into(
         from,
         to,
@@ -273,13 +213,18 @@ fn ask_of(
 ) -> io::Result<bool>
     requires { lent ≤ length memory.old }
 {
-    let kind = next_number(from)?;
-    let first = next_number(from)?;
-    let second = next_number(from)?;
-    let size = read_part(from, levels)?;
-    if levels.len() < size {
+    let Some(kind) = next_number(from)? else {
         return Ok(false);
-    }
+    };
+    let Some(first) = next_number(from)? else {
+        return Ok(false);
+    };
+    let Some(second) = next_number(from)? else {
+        return Ok(false);
+    };
+    let Some(size) = read_part(from, levels)? else {
+        return Ok(false);
+    };
     ask_expression(
         from,
         to,
@@ -305,14 +250,15 @@ fn ask_next(
     memory: &mut [u8],
     out: &mut [u8],
 ) -> io::Result<bool> {
-    let lent = next_number(from)?;
+    let Some(lent) = next_number(from)? else {
+        return Ok(false);
+    };
     if memory.len() < lent {
         return Ok(false);
     }
-    let size = read_part(from, file)?;
-    if file.len() < size {
+    let Some(size) = read_part(from, file)? else {
         return Ok(false);
-    }
+    };
     ask_of(from, to, &file[..size], levels, expr, memory, lent, out)
 }
 

@@ -22,25 +22,33 @@ use Rattle.cells.specs.Words.{four, word_at}
 use Rattle.cells.specs.declared.Layout.{Layout}
 use Rattle.cells.specs.declared.Place.{Place}
 use Rattle.call_table.specs.Walking.{Ahead, Ended, Ending, EndsArgument, EndsCall, Halfway, PutsEnd, Putting, Puts, Right, Source}
-use Rattle.call_table.specs.declared.Reached.{Reached}
+use Rattle.std.specs.Prelude.{None, Option, Some}
+use Rattle.std.proofs.lemmas.Option.{none-some, same_Some}
 use Rattle.call_table.proofs.Rows.{end-inside}
 use Rattle.call_table.proofs.Tallies.{tally-call, tally-more}
 use Rattle.call_table.proofs.Arguments.{Called, ahead-call, ahead-next, called}
 use Rattle.call_table.proofs.Cuts.{rank-cut, whole-read}
 
-module _ (l : Layout) (r i : ℕ) (before : List ℕ) (e : Reached) where
-  pub placed-failed : PutsEnd l r i before before e (record { ok = false; at = 0; rank = 0 })
-  placed-failed = record { long = refl; small = omega arith; others = λ j d. refl; word = λ o. never (sym o); same = λ o. never (sym o) }
+module _ (l : Layout) (r i : ℕ) (before : List ℕ) (e : Place) where
+  pub placed-failed : PutsEnd l r i before before e None
+  placed-failed =
+      record {
+        long = refl;
+        small = λ p o. absurd (none-some p o);
+        others = λ j d. refl;
+        word = λ p o. absurd (none-some p o);
+        same = λ p o. absurd (none-some p o);
+      }
 
   pub placed_one : (after : List ℕ) (long known j : ℕ) → j ≡ r * l.stride + (i + 1) → r < known → i < l.places → long ≤ 131072 → Sized l (length before) → known ≤ l.room
-      → e.at ≤ long → e.rank ≤ known → after ≡ sets before (4 * j) (four (e.at * 16384 + e.rank)) → PutsEnd l r i before after e e
+      → e.at ≤ long → e.rank ≤ known → after ≡ sets before (4 * j) (four (e.at * 16384 + e.rank)) → PutsEnd l r i before after e (Some e)
   placed_one after long known j q b c small z few u v s =
       record {
         long = ap length s ∙ length-sets before (4 * j) (four (e.at * 16384 + e.rank));
-        small = omega (arith, z.small);
+        small = λ p o. rw (← same_Some e p o) (omega (arith, z.small));
         others = λ m d. rw s (word-other before j m (e.at * 16384 + e.rank) (λ x. d (sym q ∙ x)));
-        word = λ o. rw (s, ← q) (word-put before j (e.at * 16384 + e.rank) inside (omega (arith, z.small)));
-        same = λ o. refl;
+        word = λ p o. rw (← same_Some e p o, s, ← q) (word-put before j (e.at * 16384 + e.rank) inside (omega (arith, z.small)));
+        same = λ p o. sym (same_Some e p o);
       }
     where
       inside : 4 * j + 3 < length before
@@ -50,9 +58,27 @@ pub places_same : (x h s : ℕ) → x ≡ places_of h → h ≡ s → x ≡ plac
 places_same x h s e f = e ∙ ap places_of f
 
 module _ (a shapes : List ℕ) (n : ℕ) (l : Layout) (known : ℕ) where
-  pub puts-placed : (h r i : ℕ) (p : Place) (before after : List ℕ) (e e' : Reached) → EndsArgument a shapes n l known before h p e → PutsEnd l r i before after e e'
-      → Puts a shapes n l known h r i p before after e'
-  puts-placed h r i p before after e e' k q = record { found = e; ends = k; placed = q }
+  module _ (h r i : ℕ) (p : Place) (before : List ℕ) (found : Option Place) (k : EndsArgument a shapes n l known before h p found) where
+    pub puts-placed : (after : List ℕ) (e : Place) (put : Option Place) → found ≡ Some e → PutsEnd l r i before after e put → Puts a shapes n l known h r i p before after put
+    puts-placed after e put f q =
+        record {
+          long = q.long;
+          small = q.small;
+          others = q.others;
+          word = q.word;
+          ends = record { lands = λ u o. k.lands u (f ∙ ap (λ (x : Place). Some x) (sym (q.same u o))) };
+        }
+
+    pub puts-none : found ≡ None → (put : Option Place) → put ≡ None → Puts a shapes n l known h r i p before before put
+    puts-none f put z =
+        rw z
+        (record {
+          long = refl;
+          small = λ u o. absurd (none-some u o);
+          others = λ j d. refl;
+          word = λ u o. absurd (none-some u o);
+          ends = record { lands = λ u o. absurd (none-some u o) };
+        })
 
   module _ (r : ℕ) (table₀ : List ℕ) (z : Sized l (length table₀)) (few : known ≤ l.room) (early : r < known) where
     pub putting-start : (h j v : ℕ) (p : Place) → h ≡ get_or shapes n 0 → j ≡ r * l.stride + 0 → v ≡ word_at table₀ j → p.at ≡ v / 16384 → p.rank ≡ v % 16384
@@ -146,20 +172,20 @@ module _ (a shapes : List ℕ) (n : ℕ) (l : Layout) (known : ℕ) where
                   equal : (r < tally n gs → ⊥) → tally n gs ≡ r
                   equal m = omega arith
 
-      module _ (table' : List ℕ) (e : Reached) (u : Puts a shapes n l known rest r i p table table' e) (in-places : i < l.places) where
+      module _ (table' : List ℕ) (e : Option Place) (u : Puts a shapes n l known rest r i p table table' e) (in-places : i < l.places) where
         others : (q j : ℕ) → j < l.stride → (q ≡ r → ⊥) → word_at table' (q * l.stride + j) ≡ word_at table₀ (q * l.stride + j)
         others q j k d =
-            u.placed.others (q * l.stride + j) (cells-apart l.stride r q (i + 1) j (omega (arith, z.wide)) k (λ (x : r ≡ q). d (sym x))) ∙ v.others q j k d
+            u.others (q * l.stride + j) (cells-apart l.stride r q (i + 1) j (omega (arith, z.wide)) k (λ (x : r ≡ q). d (sym x))) ∙ v.others q j k d
 
         first : word_at table' (r * l.stride) ≡ word_at table₀ (r * l.stride)
-        first = u.placed.others (r * l.stride) (λ (x : r * l.stride + (i + 1) ≡ r * l.stride). omega arith) ∙ v.first
+        first = u.others (r * l.stride) (λ (x : r * l.stride + (i + 1) ≡ r * l.stride). omega arith) ∙ v.first
 
-        pub putting-on : e.ok ≡ true → (p' : Place) → p'.at ≡ e.at → p'.rank ≡ e.rank → Putting a shapes n l known r table₀ table' p' (rest / 2) (i + 1)
-        putting-on ok p' pa pr =
+        pub putting-on : (p' : Place) → e ≡ Some p' → Putting a shapes n l known r table₀ table' p' (rest / 2) (i + 1)
+        putting-on p' ok =
             record {
-              long = u.placed.long ∙ v.long;
+              long = u.long ∙ v.long;
               few = omega arith;
-              small = omega (arith, u.placed.small);
+              small = u.small p' ok;
               others = others;
               first = first;
               words = words;
@@ -171,7 +197,7 @@ module _ (a shapes : List ℕ) (n : ℕ) (l : Layout) (known : ℕ) where
                 record {
                   ks = H.ks;
                   ahead = rw at (ahead-next a shapes n r t y H.ks rest p.at H.ahead);
-                  ranks = rw at (pr ∙ L.1);
+                  ranks = rw at L.1;
                   more = more;
                   words = one;
                 }
@@ -179,21 +205,19 @@ module _ (a shapes : List ℕ) (n : ℕ) (l : Layout) (known : ℕ) where
                 H : Halfway a shapes n l known r t table p rest i gs
                 H = v.words t y noted ended gs hs f m
 
-                L : (e.at ≡ end_of a shapes rest p.at) × (e.rank ≡ rank_at known n a (end_of a shapes rest p.at))
-                L =
-                    let same = u.placed.same ok in
-                    rw same (u.ends.lands (sym (ap (λ (x : Reached). x.ok) same) ∙ ok) t y r H.ks (later ended) H.ahead H.ranks)
+                L : (p'.at ≡ end_of a shapes rest p.at) × (p'.rank ≡ rank_at known n a (end_of a shapes rest p.at))
+                L = u.ends.lands p' ok t y r H.ks (later ended) H.ahead H.ranks
 
                 at : p'.at ≡ end_of a shapes rest p.at
-                at = pa ∙ L.0
+                at = L.0
 
                 more : (k : ℕ) → last_from a shapes k (rest / 2) p'.at ≡ last_from a shapes (i + 1 + k) (get_or shapes n 0) (size gs + 2)
                 more k =
                     let o : i + suc k ≡ i + 1 + k = omega arith in
                     rw at (H.more (suc k) ∙ ap (λ (x : ℕ). last_from a shapes x (get_or shapes n 0) (size gs + 2)) o)
 
-                last : e.at ≡ last_from a shapes (i + 1) (get_or shapes n 0) (size gs + 2)
-                last = sym pa ∙ more 0 ∙ ap (λ (x : ℕ). last_from a shapes x (get_or shapes n 0) (size gs + 2)) (add-zero (i + 1))
+                last : p'.at ≡ last_from a shapes (i + 1) (get_or shapes n 0) (size gs + 2)
+                last = more 0 ∙ ap (λ (x : ℕ). last_from a shapes x (get_or shapes n 0) (size gs + 2)) (add-zero (i + 1))
 
                 one : (j : ℕ) → j ≤ i + 1 → Right a shapes n l known table' gs j
                 one j d = go (dec_lt i j)
@@ -201,9 +225,9 @@ module _ (a shapes : List ℕ) (n : ℕ) (l : Layout) (known : ℕ) where
                     go : Dec (i < j) → Right a shapes n l known table' gs j
                     go (yes k) =
                         let o : j ≡ i + 1 = omega arith in
-                        rw (o, m, ← last) (u.placed.word ok ∙ ap (packed e.at) (L.1 ∙ ap (rank_at known n a) (sym L.0)))
+                        rw (o, m, ← last) (u.word p' ok ∙ ap (packed p'.at) (L.1 ∙ ap (rank_at known n a) (sym L.0)))
                     go (no k) =
-                        u.placed.others (tally n gs * l.stride + j) (λ (x : r * l.stride + (i + 1) ≡ tally n gs * l.stride + j). apart k (rw m at x))
+                        u.others (tally n gs * l.stride + j) (λ (x : r * l.stride + (i + 1) ≡ tally n gs * l.stride + j). apart k (rw m at x))
                         ∙ H.words j (below k)
                       where
                         below : (i < j → ⊥) → j ≤ i
@@ -213,7 +237,7 @@ module _ (a shapes : List ℕ) (n : ℕ) (l : Layout) (known : ℕ) where
                         apart k x = omega arith
 
         pub putting-failed : EndsCall a shapes n l known r table₀ table' false
-        putting-failed = record { long = u.placed.long ∙ v.long; noted = noted-kept table' others first; ended = λ o. never (sym o) }
+        putting-failed = record { long = u.long ∙ v.long; noted = noted-kept table' others first; ended = λ o. never (sym o) }
 
   -- all calls
   pub ending-start : (table₀ : List ℕ) → Ending a shapes n l known known table₀ table₀

@@ -3,6 +3,7 @@ use mathlib.Core.Bool.{Bool, ◌&&◌, cond, false, true}
 use mathlib.Core.List.{List}
 use mathlib.Core.Path.{◌≡◌, ◌∙◌, ap, refl}
 use borrow.Author.Tests.{le-ltb, lt-ltb}
+use Rattle.std.specs.Prelude.{None, Some}
 use lib.Dec.{ltb}
 use lib.ListN.{length}
 use lib.Seq.{length-sets, sets}
@@ -58,12 +59,18 @@ pub hops-unknown : (called b : Bool) (rank known : ℕ) → called ≡ true → 
 hops-unknown called b rank known e l = rw (e, le-ltb rank known l)
 
 -- what `hop` gives
-pub hop-is : (s : List ℕ) (i j v : ℕ) (w : Walk) (p : Place) → j ≡ i → v ≡ word_at s j → p.at ≡ v / 16384 → p.rank ≡ v % 16384
-    → record { ok = ltb w.at p.at; at = p.at; rank = p.rank; left = w.left - 1; c = w.c } ≡ hopped (word_at s i) w
-hop-is s i j v w p e f g h = rw (g, h, f, e) refl
+module _ (s : List ℕ) (i j v : ℕ) (w : Walk) (p : Place) (e : j ≡ i) (f : v ≡ word_at s j) (g : p.at ≡ v / 16384) (h : p.rank ≡ v % 16384) where
+  there : p.at ≡ word_at s i / 16384
+  there = rw (g, f, e) refl
+
+  pub hop-is : w.at < p.at → Some (record { at = p.at; rank = p.rank; left = w.left - 1; c = w.c }) ≡ hopped (word_at s i) w
+  hop-is l = rw (lt-ltb w.at (word_at s i / 16384) (omega (arith, there)), g, h, f, e) refl
+
+  pub hop-astray : p.at ≤ w.at → None ≡ hopped (word_at s i) w
+  hop-astray l = rw (le-ltb w.at (word_at s i / 16384) (omega (arith, there)))
 
 -- what `step` gives
 pub step_is : (shapes : List ℕ) (known : ℕ) (called : Bool) (g : Symbol) (w : Walk) (wd rank left c : ℕ) → wd ≡ width_of g
     → rank ≡ cond called (cond (ltb w.rank known) (w.rank + 1) w.rank) w.rank → left ≡ left_after (shape_in shapes) w.left g → c ≡ after w.c g
-    → record { ok = true; at = w.at + wd; rank = rank; left = left; c = c } ≡ stepped shapes known called g w
+    → record { at = w.at + wd; rank = rank; left = left; c = c } ≡ stepped shapes known called g w
 step_is shapes known called g w wd rank left c e f h k = rw (e, f, h, k) refl

@@ -1,5 +1,5 @@
 -- Walks over the string of a term that hop over the calls whose ends the table has. Definitions only.
-use Rattle.std.specs.Prelude.{Bool, ◌&&◌, cond, false, true, List, ◌++◌, ◌∷◌, ◌≡◌, ℕ, suc, ◌+◌, ◌-◌, ◌*◌, ◌/◌, ◌%◌, ◌^◌, ◌≤◌, ◌<◌, min, ltb, get_or, length}
+use Rattle.std.specs.Prelude.{None, Option, Some, Bool, ◌&&◌, cond, false, true, List, ◌++◌, ◌∷◌, ◌≡◌, ℕ, suc, ◌+◌, ◌-◌, ◌*◌, ◌/◌, ◌%◌, ◌^◌, ◌≤◌, ◌<◌, min, ltb, get_or, length}
 use Rattle.std.proofs.lemmas.List.Edits.{sets}
 use Rattle.theory.specs.Level.{binds_in, plain}
 use Rattle.theory.specs.Term.{Everys, Term, Terms}
@@ -13,7 +13,6 @@ use Rattle.cells.specs.Table.{Noted, packed, rank_at, tally}
 use Rattle.cells.specs.Words.{four, word_at}
 use Rattle.cells.specs.declared.Layout.{Layout}
 use Rattle.cells.specs.declared.Place.{Place}
-use Rattle.call_table.specs.declared.Reached.{Reached}
 use Rattle.call_table.specs.declared.Walk.{Walk}
 
 -- One call more, if there are words for it: its first word is put.
@@ -67,14 +66,13 @@ pub record Small (w : Walk) : Type 0 where
   pub c : w.c ≤ w.at
 
 -- past a call whose last word is v
-abbrev pub hopped : ℕ → Walk → Walk
-hopped v w = record { ok = ltb w.at (v / 16384); at = v / 16384; rank = v % 16384; left = w.left - 1; c = w.c }
+abbrev pub hopped : ℕ → Walk → Option Walk
+hopped v w = cond (ltb w.at (v / 16384)) (Some (record { at = v / 16384; rank = v % 16384; left = w.left - 1; c = w.c })) None
 
 -- past one symbol
 abbrev pub stepped : List ℕ → ℕ → Bool → Symbol → Walk → Walk
 stepped shapes known called g w =
     record {
-      ok = true;
       at = w.at + width_of g;
       rank = cond called (cond (ltb w.rank known) (w.rank + 1) w.rank) w.rank;
       left = left_after (shape_in shapes) w.left g;
@@ -82,18 +80,18 @@ stepped shapes known called g w =
     }
 
 -- one turn of a walk
-pub record Passes (a shapes : List ℕ) (n : ℕ) (l : Layout) (known : ℕ) (table : List ℕ) (w v : Walk) : Type 0 where
-  pub on : v.ok ≡ true → w.at < v.at
-  pub small : v.ok ≡ true → Small v
-  pub walks : v.ok ≡ true → (t : Term) → Source a shapes t → (r x : ℕ) → Ended a shapes n l known (suc r) table
+pub record Passes (a shapes : List ℕ) (n : ℕ) (l : Layout) (known : ℕ) (table : List ℕ) (w : Walk) (r : Option Walk) : Type 0 where
+  pub on : (v : Walk) → r ≡ Some v → w.at < v.at
+  pub small : (v : Walk) → r ≡ Some v → Small v
+  pub walks : (v : Walk) → r ≡ Some v → (t : Term) → Source a shapes t → (r x : ℕ) → Ended a shapes n l known (suc r) table
       → Walks shapes n known r t x w.at w.rank w.left w.c → Walks shapes n known r t x v.at v.rank v.left v.c
 
 -- the whole of a walk: it ends there, and as many calls stand before
-abbrev pub Lands : List ℕ → ℕ → ℕ → ℕ → Reached → Type 0
+abbrev pub Lands : List ℕ → ℕ → ℕ → ℕ → Place → Type 0
 Lands a n known x e = (e.at ≡ x) × (e.rank ≡ rank_at known n a x)
 
-pub record EndsTerm (a shapes : List ℕ) (n : ℕ) (l : Layout) (known : ℕ) (table : List ℕ) (p : Place) (e : Reached) : Type 0 where
-  pub lands : e.ok ≡ true → (t : Term) → Source a shapes t → (r x : ℕ) → Ended a shapes n l known (suc r) table
+pub record EndsTerm (a shapes : List ℕ) (n : ℕ) (l : Layout) (known : ℕ) (table : List ℕ) (p : Place) (found : Option Place) : Type 0 where
+  pub lands : (e : Place) → found ≡ Some e → (t : Term) → Source a shapes t → (r x : ℕ) → Ended a shapes n l known (suc r) table
       → Walks shapes n known r t x p.at p.rank 1 0 → Lands a n known x e
 
 -- after some turns
@@ -112,23 +110,25 @@ pub record Ahead (shapes : List ℕ) (n r : ℕ) (t : Term) (ks : List Symbol) (
   pub fits : h < 2 ^ count us
   pub shaped : Everys (ShapedHead (shape_in shapes)) 0 (binds_in plain) us
 
-pub record EndsArgument (a shapes : List ℕ) (n : ℕ) (l : Layout) (known : ℕ) (table : List ℕ) (h : ℕ) (p : Place) (e : Reached) : Type 0 where
-  pub lands : e.ok ≡ true → (t : Term) → Source a shapes t → (r : ℕ) (ks : List Symbol) → Ended a shapes n l known (suc r) table
+pub record EndsArgument (a shapes : List ℕ) (n : ℕ) (l : Layout) (known : ℕ) (table : List ℕ) (h : ℕ) (p : Place) (found : Option Place) : Type 0 where
+  pub lands : (e : Place) → found ≡ Some e → (t : Term) → Source a shapes t → (r : ℕ) (ks : List Symbol) → Ended a shapes n l known (suc r) table
       → Ahead shapes n r t ks h p.at → p.rank ≡ rank_at known n a p.at → Lands a n known (end_of a shapes h p.at) e
 
 -- the word where argument i of call r ends, put where there is one
-pub record PutsEnd (l : Layout) (r i : ℕ) (before after : List ℕ) (e e' : Reached) : Type 0 where
+pub record PutsEnd (l : Layout) (r i : ℕ) (before after : List ℕ) (e : Place) (put : Option Place) : Type 0 where
   pub long : length after ≡ length before
-  pub small : e'.rank ≤ 16383
+  pub small : (p : Place) → put ≡ Some p → p.rank ≤ 16383
   pub others : (j : ℕ) → (r * l.stride + (i + 1) ≡ j → ⊥) → word_at after j ≡ word_at before j
-  pub word : e'.ok ≡ true → word_at after (r * l.stride + (i + 1)) ≡ packed e'.at e'.rank
-  pub same : e'.ok ≡ true → e' ≡ e
+  pub word : (p : Place) → put ≡ Some p → word_at after (r * l.stride + (i + 1)) ≡ packed p.at p.rank
+  pub same : (p : Place) → put ≡ Some p → p ≡ e
 
 -- One argument of call r more, and the word where it ends.
-pub record Puts (a shapes : List ℕ) (n : ℕ) (l : Layout) (known h r i : ℕ) (p : Place) (before after : List ℕ) (e : Reached) : Type 0 where
-  pub found : Reached
-  pub ends : EndsArgument a shapes n l known before h p found
-  pub placed : PutsEnd l r i before after found e
+pub record Puts (a shapes : List ℕ) (n : ℕ) (l : Layout) (known h r i : ℕ) (p : Place) (before after : List ℕ) (put : Option Place) : Type 0 where
+  pub long : length after ≡ length before
+  pub small : (e : Place) → put ≡ Some e → e.rank ≤ 16383
+  pub others : (j : ℕ) → (r * l.stride + (i + 1) ≡ j → ⊥) → word_at after j ≡ word_at before j
+  pub word : (e : Place) → put ≡ Some e → word_at after (r * l.stride + (i + 1)) ≡ packed e.at e.rank
+  pub ends : EndsArgument a shapes n l known before h p put
 
 -- Of the call that stands after gs: i of its arguments are passed, `rest` being the bits of those that are ahead, and have their words.
 pub record Halfway (a shapes : List ℕ) (n : ℕ) (l : Layout) (known r : ℕ) (t : Term) (table : List ℕ) (p : Place) (rest i : ℕ) (gs : List Symbol) : Type 0 where

@@ -1,9 +1,7 @@
 -- The walk along a chain, whatever stands: what the loop keeps.
-use borrow.Author.Tests.{le-ltb, lt-ltb, ltb-true}
-use mathlib.Core.Bool.{Bool, cond, false, true}
+use mathlib.Core.Bool.{Bool, false, true}
 use mathlib.Core.List.{List}
 use mathlib.Core.Path.{◌∙◌, ◌≡◌, ap, refl, subst, sym}
-use lib.Dec.{ltb}
 use lib.ListN.{get_or, length, length-set, set}
 use lib.Seq.{get_or-set_other, get_or-set_same}
 use native.Mathlib.Decide.{ℕ_discrete}
@@ -14,7 +12,9 @@ use Rattle.limits.specs.Limits.{max_arity, max_declarations, max_definitions, ma
 use Rattle.rules.specs.State.{State}
 use Rattle.laws.proofs.Within.{Within}
 use Rattle.texts.specs.Text.{Declarations}
-use Rattle.store.specs.Store.{Store, source_at}
+use Rattle.store.specs.Store.{source_at}
+use Rattle.store.specs.declared.Store.{Store}
+use Rattle.store.specs.declared.Facts.{Facts}
 use Rattle.context.specs.declared.Counts.{Counts}
 use Rattle.worlds.specs.Rows.{Row, world_of}
 use Rattle.worlds.proofs.Depth.{Depths, chain-short}
@@ -28,45 +28,15 @@ use Rattle.unfolding.specs.AtLevel.{AtLevel}
 use Rattle.unfolding.specs.CalleeTerm.{max_links, row_of}
 use Rattle.unfolding.proofs.ChainLevels.{known, level-on, level-start}
 use Rattle.unfolding.proofs.ChainTexts.{deeper}
-use Rattle.callees.specs.Walk.{ChainEntered, ChainStarted, LevelEntered, RowEntered, RowPut, Sized, goes_on}
+use Rattle.callees.specs.Walk.{ChainEntered, ChainStarted, LevelEntered, RowEntered, RowPut, Sized}
 
--- What the tests read
-
-pub goes-there : (facts currents outers : List ℕ) (l outer cur : ℕ) (r : Bool) → l < max_links → outer ≡ get_or outers l 0 → cur ≡ get_or currents l 0
-    → r ≡ step_fits facts outer cur → r ≡ goes_on facts currents outers l
-unfolding goes_on
-goes-there facts currents outers l outer cur r h o c e =
-    rw (lt-ltb l max_links h) (e ∙ ap (λ (x : ℕ). step_fits facts x cur) o ∙ ap (step_fits facts (get_or outers l 0)) c)
-
-pub goes_over : (facts currents outers : List ℕ) (l : ℕ) → max_links ≤ l → false ≡ goes_on facts currents outers l
-unfolding goes_on
-goes_over facts currents outers l h = rw (le-ltb l max_links h) refl
-
-record Goes (facts currents outers : List ℕ) (l : ℕ) : Type 0 where
-  room : l < max_links
-  fits : step_fits facts (get_or outers l 0) (get_or currents l 0) ≡ true
-
-goes : (facts currents outers : List ℕ) (l : ℕ) → goes_on facts currents outers l ≡ true → Goes facts currents outers l
-unfolding goes_on
-goes facts currents outers l e = go (ltb l max_links) refl e
-  where
-    go : (b : Bool) → ltb l max_links ≡ b → cond b (step_fits facts (get_or outers l 0) (get_or currents l 0)) false ≡ true → Goes facts currents outers l
-    go true p q = record { room = ltb-true l max_links p; fits = q }
-    go false p q = absurd (let z : ◌≡◌ {A = ℕ} 0 1 = cc in omega arith)
-
-pub goes-room : (facts currents outers : List ℕ) (l : ℕ) → goes_on facts currents outers l ≡ true → l < max_links
-goes-room facts currents outers l e = (goes facts currents outers l e).room
-
-pub goes-fits : (facts currents outers : List ℕ) (l : ℕ) → goes_on facts currents outers l ≡ true → step_fits facts (get_or outers l 0) (get_or currents l 0) ≡ true
-goes-fits facts currents outers l e = (goes facts currents outers l e).fits
-
-pub outer-small : (facts : List ℕ) (outer cur r : ℕ) → r ≡ outer_after facts outer cur → step_fits facts outer cur ≡ true → r ≤ max_arity
+pub outer-small : (facts : List Facts) (outer cur r : ℕ) → r ≡ outer_after facts outer cur → step_fits facts outer cur ≡ true → r ≤ max_arity
 outer-small facts outer cur r p e = omega (arith, p, (fits-within facts outer (code_at facts cur) (step-link facts outer cur (code_at facts cur) refl e)).params)
 
-pub source-small : (facts : List ℕ) (outer cur r : ℕ) → r ≡ source_at facts cur → cur < max_definitions → step_fits facts outer cur ≡ true → r < max_definitions
+pub source-small : (facts : List Facts) (outer cur r : ℕ) → r ≡ source_at facts cur → cur < max_definitions → step_fits facts outer cur ≡ true → r < max_definitions
 source-small facts outer cur r p h e = omega (arith, step_less facts outer cur r p e)
 
-pub level-entered : (facts orders heads : List ℕ) (l : ℕ) (numbers numbers' currents outers : List ℕ) (cur outer o source around : ℕ) → cur ≡ get_or currents l 0
+pub level-entered : (facts : List Facts) (orders heads : List ℕ) (l : ℕ) (numbers numbers' currents outers : List ℕ) (cur outer o source around : ℕ) → cur ≡ get_or currents l 0
     → outer ≡ get_or outers l 0 → o ≡ code_at facts cur → RowEntered facts orders heads o l numbers numbers' → source ≡ source_at facts cur → around ≡ outer_after facts outer cur
     → LevelEntered facts orders heads l numbers numbers' currents (set currents (l + 1) source) outers (set outers (l + 1) around)
 level-entered facts orders heads l numbers numbers' currents outers cur outer o source around c u p x q a =
@@ -98,11 +68,10 @@ at_same s rs bs D j cur cur' outer outer' row row' p q r a =
     subst (λ (y : List ℕ). AtLevel s rs bs D j cur' outer' y) r
     (subst (λ (y : ℕ). AtLevel s rs bs D j cur' y row) q (subst (λ (y : ℕ). AtLevel s rs bs D j y outer row) p a))
 
-pub upto-start : (v : Store) (D : ℕ) (numbers currents outers : List ℕ) → length numbers ≡ max_definitions * max_modules → length currents ≡ max_modules
-    → length outers ≡ max_modules → D < max_definitions → ChainStarted D numbers currents outers → Upto v D 0 numbers currents outers
-upto-start v D numbers currents outers a b d h x =
+pub upto-start : (v : Store) (D : ℕ) (numbers currents outers : List ℕ) → Sized numbers currents outers → D < max_definitions → ChainStarted D numbers currents outers → Upto v D 0 numbers currents outers
+upto-start v D numbers currents outers sized h x =
     record {
-      sized = record { numbers_size = a; currents_size = b; outers_size = d };
+      sized = sized;
       few = omega arith;
       cur-few = omega (arith, x.current);
       outer-few = omega (arith, x.outer);
@@ -115,17 +84,11 @@ upto-start v D numbers currents outers a b d h x =
     }
 
 module _ (v : Store) (D l : ℕ) (numbers currents outers : List ℕ) (upto : Upto v D l numbers currents outers) where
-  abbrev facts : List ℕ
+  abbrev facts : List Facts
   facts = v.facts
 
-  module _ (numbers' currents' outers' : List ℕ) (went : goes_on facts currents outers l ≡ true)
+  module _ (numbers' currents' outers' : List ℕ) (room : l < max_links) (fits : step_fits facts (get_or outers l 0) (get_or currents l 0) ≡ true)
       (x : LevelEntered facts v.orders v.heads l numbers numbers' currents currents' outers outers') where
-    room : l < max_links
-    room = goes-room facts currents outers l went
-
-    fits : step_fits facts (get_or outers l 0) (get_or currents l 0) ≡ true
-    fits = goes-fits facts currents outers l went
-
     old-current : (j : ℕ) → j ≤ l → get_or currents j 0 ≡ get_or currents' j 0
     old-current j i =
         sym (ap (λ (y : List ℕ). get_or y j 0) x.current ∙ get_or-set_other currents (l + 1) j (source_at facts (get_or currents l 0)) 0 (λ (z : j ≡ l + 1). omega (arith, z)))
@@ -171,17 +134,10 @@ module _ (v : Store) (D l : ℕ) (numbers currents outers : List ℕ) (upto : Up
           at_same s rs ready.worlds.runs D j (get_or currents j 0) (get_or currents' j 0) (get_or outers j 0) (get_or outers' j 0) (row_of numbers j) (row_of numbers' j)
           (old-current j k) (old-outer j k) (sym (x.row.kept j (omega (arith, k)))) (upto.each file refs n c s rs decls end ready there j k)
 
-    pub upto_turn : length numbers' ≡ max_definitions * max_modules → Upto v D (l + 1) numbers' currents' outers'
-    upto_turn size =
+    pub upto_turn : Sized numbers' currents' outers' → Upto v D (l + 1) numbers' currents' outers'
+    upto_turn sized =
         record {
-          sized =
-              record {
-                numbers_size = size;
-                currents_size =
-                    ap (λ (y : List ℕ). length y) x.current ∙ length-set currents (l + 1) (source_at facts (get_or currents l 0)) ∙ upto.sized.currents_size;
-                outers_size =
-                    ap (λ (y : List ℕ). length y) x.outer ∙ length-set outers (l + 1) (outer_after facts (get_or outers l 0) (get_or currents l 0)) ∙ upto.sized.outers_size;
-              };
+          sized = sized;
           few = omega (arith, room);
           cur-few = source-small facts (get_or outers l 0) (get_or currents l 0) (get_or currents' (l + 1) 0) new-current upto.cur-few fits;
           outer-few = outer-small facts (get_or outers l 0) (get_or currents l 0) (get_or outers' (l + 1) 0) new-outer fits;
@@ -194,7 +150,7 @@ module _ (v : Store) (D l : ℕ) (numbers currents outers : List ℕ) (upto : Up
         }
 
   -- Where no step is made the chain ends: it has no more links than there is room for.
-  pub upto-whole : goes_on facts currents outers l ≡ false → ChainEntered v D l numbers currents outers
+  pub upto-whole : (l < max_links → step_fits facts (get_or outers l 0) (get_or currents l 0) ≡ false) → ChainEntered v D l numbers currents outers
   upto-whole left =
       record {
         few = upto.few;
@@ -217,7 +173,11 @@ module _ (v : Store) (D l : ℕ) (numbers currents outers : List ℕ) (upto : Up
           deeper file refs v v.declared n D c s rs decls end ready there room l (get_or currents l 0) (get_or outers l 0) (row_of numbers l) here e in
           let inside : D < length rs = omega (arith, known file refs v v.declared n D c s rs decls end ready there, ready.worlds.book.counted) in
           let short : length (world_of rs D) ≤ 15 = chain-short s rs within depths D inside in
-          let went : true ≡ goes_on facts currents outers l =
-          goes-there facts currents outers l (get_or outers l 0) (get_or currents l 0) true (omega arith) refl refl (sym e) in
-          let z : ◌≡◌ {A = Bool} true false = went ∙ left in
+          let z : ◌≡◌ {A = Bool} true false = sym e ∙ left (omega arith) in
           absurd (let y : ◌≡◌ {A = ℕ} 0 1 = cc in omega arith)
+
+  -- A chain that fills the arrays ends there.
+  pub upto-last : max_links ≤ l → ChainEntered v D max_links numbers currents outers
+  upto-last h =
+      let e : l ≡ max_links = omega (arith, upto.few) in
+      subst (λ (k : ℕ). ChainEntered v D k numbers currents outers) e (upto-whole (λ g. absurd (omega arith)))

@@ -9,6 +9,7 @@ use Rattle.limits.specs.Limits.{max_definitions}
 use Rattle.chains.specs.Walk.{NumbersEntered}
 use Rattle.unfolding.specs.CalleeTerm.{row_of}
 use Rattle.callees.specs.Walk.{RowEntered, RowPut}
+use Rattle.store.specs.declared.Facts.{Facts}
 
 -- the row that lies between two positions
 pub row-between : (xs : List ℕ) (l : ℕ) → take (max_definitions * l + max_definitions - max_definitions * l) (drop (max_definitions * l) xs) ≡ row_of xs l
@@ -43,7 +44,7 @@ pub row_laid : (xs row copy zs : List ℕ) (l : ℕ) → copy ≡ row → length
 row_laid xs row copy zs l e r h = rw e (row_put xs row zs l r h)
 
 -- a row read, entered and put at the next level
-pub row-entered : (facts orders heads : List ℕ) (o l : ℕ) (numbers numbers' row row' : List ℕ) → row ≡ row_of numbers l
+pub row-entered : (facts : List Facts) (orders heads : List ℕ) (o l : ℕ) (numbers numbers' row row' : List ℕ) → row ≡ row_of numbers l
     → NumbersEntered facts orders heads o row row' → RowPut numbers (l + 1) row' numbers' → RowEntered facts orders heads o l numbers numbers'
 row-entered facts orders heads o l numbers numbers' row row' e x p =
     record {

@@ -14,7 +14,8 @@ use Rattle.symbols.specs.Spell.{max_params, spell}
 use Rattle.rules.specs.State.{State, params_of}
 use Rattle.tokens.specs.Expr.{Found, expr_at}
 use Rattle.texts.specs.Text.{Declarations, no_declaration}
-use Rattle.store.specs.Store.{Store, first_at, kind_at}
+use Rattle.store.specs.Store.{first_at, kind_at}
+use Rattle.store.specs.declared.Store.{Store}
 use Rattle.context.specs.declared.Counts.{Counts}
 use Rattle.worlds.specs.Rows.{Row, world_of}
 use Rattle.worlds.specs.World.{World, params_in}
@@ -23,8 +24,7 @@ use Rattle.entering.proofs.Outset.{kind_number}
 use Rattle.entering.specs.Implied.{arguments_of, implied_ref}
 use Rattle.entering.specs.Written.{written_at}
 use Rattle.entering.specs.declared.substitutes.Site.{Site}
-use Rattle.entering.specs.declared.written.Writing.{Writing}
-use Rattle.entering.specs.declared.written.Writing.TheVariants.{Unwritten, Written}
+use Rattle.std.specs.Prelude.{Option as Answer, Some, None}
 use Rattle.chains.specs.Ready.{Ready}
 use Rattle.chains.specs.Walk.{code_at, outer_after, site_of, step_fits}
 use Rattle.chains.proofs.Knowing.{NamedIn}
@@ -145,29 +145,29 @@ own-string file refs v numbers currents outers shapes k cur outer at row out roo
         (b.same small) x)
 
 -- what is written, or else what the name means
-module _ (file refs : List ℕ) (v : Store) (row shapes : List ℕ) (site : Site) (level e : ℕ) (out : List ℕ) (room : ℕ) (fits : Bool) (len o x : ℕ) (w : Writing)
+module _ (file refs : List ℕ) (v : Store) (row shapes : List ℕ) (site : Site) (level e : ℕ) (out : List ℕ) (room : ℕ) (fits : Bool) (len o x : ℕ) (w : Answer ℕ)
     (p : o ≡ get_or v.declared e 0) (q : x ≡ get_or v.names o 0) (found-there : w ≡ written_at site.count file site.start x) where
   name-there : x ≡ get_or v.names (get_or v.declared e 0) 0
   name-there = q ∙ ap (λ (i : ℕ). get_or v.names i 0) p
 
-  by-writing : (y : Writing) → w ≡ y → SubstitutedBy file refs v row shapes site level e out room fits len y
+  by-writing : (y : Answer ℕ) → w ≡ y → SubstitutedBy file refs v row shapes site level e out room fits len y
       → SubstituteString file refs v row shapes site level e out room fits len
   by-writing y f z =
       record {
         by =
-            subst (λ (k : Writing). SubstitutedBy file refs v row shapes site level e out room fits len k)
+            subst (λ (k : Answer ℕ). SubstitutedBy file refs v row shapes site level e out room fits len k)
             (sym f ∙ found-there ∙ ap (written_at site.count file site.start) name-there) z;
       }
 
-  pub substituted-written : (at : ℕ) → w ≡ Written at → TextString file refs v.names v.declared row shapes at level site.outer out room fits len
+  pub substituted-written : (at : ℕ) → w ≡ Some at → TextString file refs v.names v.declared row shapes at level site.outer out room fits len
       → SubstituteString file refs v row shapes site level e out room fits len
-  substituted-written at f z = by-writing (Written at) f z
+  substituted-written at f z = by-writing (Some at) f z
 
-  pub substituted-implied : (r n k : ℕ) → w ≡ Unwritten → r ≡ implied_ref v.names v.facts v.contexts v.heads site.owner x → n ≡ kind_at v.facts o → k ≡ arguments_of n
+  pub substituted-implied : (r n k : ℕ) → w ≡ None → r ≡ implied_ref v.names v.facts v.contexts v.heads site.owner x → n ≡ kind_at v.facts o → k ≡ arguments_of n
       → ImpliedString v.names v.declared row shapes r level site.outer site.params k out room fits len
       → SubstituteString file refs v row shapes site level e out room fits len
   substituted-implied r n k f i j h z =
-      by-writing Unwritten f
+      by-writing None f
       (subst
       (λ (y : ℕ). ImpliedString v.names v.declared row shapes y level site.outer site.params (arguments_of (kind_at v.facts (get_or v.declared e 0))) out room fits len)
       (i ∙ ap (implied_ref v.names v.facts v.contexts v.heads site.owner) name-there)
@@ -235,14 +235,14 @@ module _ (file refs : List ℕ) (v : Store) (numbers currents outers shapes : Li
   arguments-there : arguments_of (kind_at v.facts (get_or v.declared e 0)) ≡ kind_arity kind
   arguments-there = ap arguments_of (ready.codes.kind e named.0) ∙ count-kind kind few-arguments
 
-  by-string : (y : Writing) → UnfoldsBy sizes file refs v s decls (world_of rs D) D call arity l (get_or outers l 0) (row_of numbers l) end site.owner site.params kind name y
+  by-string : (y : Answer ℕ) → UnfoldsBy sizes file refs v s decls (world_of rs D) D call arity l (get_or outers l 0) (row_of numbers l) end site.owner site.params kind name y
       → Narrow (spell (shapes_of shapes) (written_term file refs v decls (place_in numbers outers l) site kind name y))
       → SubstitutedBy file refs v (row_of numbers l) shapes site l e out room fits len y
       → Strung (written_term file refs v decls (place_in numbers outers l) site kind name y) shapes end out room fits len
-  by-string (Written at) u narrow z =
+  by-string (Some at) u narrow z =
       text-strung file refs v.names v.declared shapes s decls (world_of rs D) D call arity l (get_or outers l 0) (row_of numbers l) end out room fits len small
       (omega (arith, ready.numbered)) ready.codes.named shapes-fit at u narrow z
-  by-string Unwritten u narrow z =
+  by-string None u narrow z =
       implied-strung file refs v.names v.declared shapes s decls (world_of rs D) D call arity l (get_or outers l 0) (row_of numbers l) end out room fits len small
       (omega (arith, ready.numbered)) ready.codes.named shapes-fit site.params (kind_arity kind) (implied_ref v.names v.facts v.contexts v.heads site.owner name) few-arguments
       u.below narrow

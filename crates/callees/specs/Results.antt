@@ -5,14 +5,14 @@ use Rattle.theory.specs.Term.{Term}
 use Rattle.symbols.specs.Spell.{max_params, spell}
 use Rattle.rules.specs.State.{State}
 use Rattle.texts.specs.Text.{Declarations}
-use Rattle.store.specs.Store.{Store, kind_at}
+use Rattle.store.specs.Store.{kind_at}
+use Rattle.store.specs.declared.Store.{Store}
 use Rattle.context.specs.declared.Counts.{Counts}
 use Rattle.worlds.specs.Rows.{Row, world_of}
 use Rattle.entering.specs.Implied.{arguments_of, implied_ref}
 use Rattle.entering.specs.Written.{written_at}
 use Rattle.entering.specs.declared.substitutes.Site.{Site}
-use Rattle.entering.specs.declared.written.Writing.{Writing}
-use Rattle.entering.specs.declared.written.Writing.TheVariants.{Unwritten, Written}
+use Rattle.std.specs.Prelude.{Option as Answer, Some, None}
 use Rattle.chains.specs.Ready.{Ready}
 use Rattle.chains.specs.Walk.{code_at, site_of, step_fits}
 use Rattle.chains.proofs.Knowing.{NamedIn}
@@ -44,10 +44,10 @@ pub record OwnString (file refs : List ℕ) (v : Store) (numbers currents outers
       → Strung (own_term file refs v.facts decls k numbers currents outers) shapes end out room fits len
 
 -- what is written for declaration e at an INSTANCE field, or what its name means there
-abbrev pub SubstitutedBy : List ℕ → List ℕ → Store → List ℕ → List ℕ → Site → ℕ → ℕ → List ℕ → ℕ → Bool → ℕ → Writing → Type 0
-SubstitutedBy file refs v row shapes site level e out room fits len (Written at) =
+abbrev pub SubstitutedBy : List ℕ → List ℕ → Store → List ℕ → List ℕ → Site → ℕ → ℕ → List ℕ → ℕ → Bool → ℕ → Answer ℕ → Type 0
+SubstitutedBy file refs v row shapes site level e out room fits len (Some at) =
     TextString file refs v.names v.declared row shapes at level site.outer out room fits len
-SubstitutedBy file refs v row shapes site level e out room fits len Unwritten =
+SubstitutedBy file refs v row shapes site level e out room fits len None =
     ImpliedString v.names v.declared row shapes (implied_ref v.names v.facts v.contexts v.heads site.owner (get_or v.names (get_or v.declared e 0) 0)) level site.outer site.params
     (arguments_of (kind_at v.facts (get_or v.declared e 0))) out room fits len
 

@@ -1,16 +1,18 @@
 -- The chain of one definition in arrays, one level after another.
-use Rattle.std.specs.Prelude.{Bool, cond, false, List, ◌≡◌, ℕ, ◌+◌, ◌*◌, ◌≤◌, ◌<◌, ltb, get_or, length, set}
+use Rattle.std.specs.Prelude.{List, ◌≡◌, ℕ, ◌+◌, ◌*◌, ◌≤◌, ◌<◌, get_or, length, set}
 use Rattle.limits.specs.Limits.{max_declarations, max_definitions, max_modules}
 use Rattle.rules.specs.State.{State}
 use Rattle.laws.proofs.Within.{Within}
 use Rattle.texts.specs.Text.{Declarations}
-use Rattle.store.specs.Store.{Store, source_at}
+use Rattle.store.specs.Store.{source_at}
+use Rattle.store.specs.declared.Store.{Store}
+use Rattle.store.specs.declared.Facts.{Facts}
 use Rattle.context.specs.declared.Counts.{Counts}
 use Rattle.worlds.specs.Rows.{Row}
 use Rattle.worlds.proofs.Depth.{Depths}
 use Rattle.chains.specs.Ready.{Ready}
 use Rattle.chains.specs.Results.{Itselves}
-use Rattle.chains.specs.Walk.{NumbersEntered, code_at, outer_after, step_fits}
+use Rattle.chains.specs.Walk.{NumbersEntered, code_at, outer_after}
 use Rattle.unfolding.specs.CalleeTerm.{Entered, max_links, row_of}
 
 -- the arrays have room for a chain
@@ -19,21 +21,17 @@ pub record Sized (numbers currents outers : List ℕ) : Type 0 where
   pub currents_size : length currents ≡ max_modules
   pub outers_size : length outers ≡ max_modules
 
--- a step is made from level l: there is room for it, and it fits
-unfoldable pub goes_on : List ℕ → List ℕ → List ℕ → ℕ → Bool
-goes_on facts currents outers l = cond (ltb l max_links) (step_fits facts (get_or outers l 0) (get_or currents l 0)) false
-
 -- A row has been put at level l; those before it stand as they stood.
 pub record RowPut (before : List ℕ) (l : ℕ) (row after : List ℕ) : Type 0 where
   pub here : row_of after l ≡ row
   pub kept : (j : ℕ) → j < l → row_of after j ≡ row_of before j
 
 -- The row of level l + 1 is that of level l one instance further in.
-pub record RowEntered (facts orders heads : List ℕ) (o l : ℕ) (numbers numbers' : List ℕ) : Type 0 where
+pub record RowEntered (facts : List Facts) (orders heads : List ℕ) (o l : ℕ) (numbers numbers' : List ℕ) : Type 0 where
   pub entered : NumbersEntered facts orders heads o (row_of numbers l) (row_of numbers' (l + 1))
   pub kept : (j : ℕ) → j < l + 1 → row_of numbers' j ≡ row_of numbers j
 
-pub record LevelEntered (facts orders heads : List ℕ) (l : ℕ) (numbers numbers' currents currents' outers outers' : List ℕ) : Type 0 where
+pub record LevelEntered (facts : List Facts) (orders heads : List ℕ) (l : ℕ) (numbers numbers' currents currents' outers outers' : List ℕ) : Type 0 where
   pub row : RowEntered facts orders heads (code_at facts (get_or currents l 0)) l numbers numbers'
   pub current : currents' ≡ set currents (l + 1) (source_at facts (get_or currents l 0))
   pub outer : outers' ≡ set outers (l + 1) (outer_after facts (get_or outers l 0) (get_or currents l 0))

@@ -18,7 +18,9 @@ use Rattle.texts.specs.Text.{Declarations}
 use Rattle.forms.specs.Forms.{form_at, level_at}
 use Rattle.context.specs.Holds.{Holds}
 use Rattle.context.specs.Lookup.{arity_at}
-use Rattle.store.specs.Store.{Store, kind_at}
+use Rattle.store.specs.Store.{kind_at}
+use Rattle.store.specs.declared.Store.{Store}
+use Rattle.store.specs.declared.Facts.{Facts}
 use Rattle.context.specs.declared.Counts.{Counts}
 use Rattle.levels.proofs.Numbered.{numbers-at}
 use Rattle.levels.specs.Tables.{scene_of}
@@ -26,7 +28,7 @@ use Rattle.text_levels.proofs.OwnWorld.{Shows}
 use Rattle.standing.specs.Standing.{itselves}
 use Rattle.cards.specs.Cards.{card_at, cards_of}
 
-module _ (facts words : List ℕ) (s : State) where
+module _ (facts : List Facts) (words : List ℕ) (s : State) where
   cards-split : (k : ℕ) (ds : List Added) → ((i : ℕ) → i < k + length ds → card_at facts words i ≡ card s i)
       → cards_of facts words (k + length ds) ≡ cards_of facts words k ++ cards_from s k ds
   cards-split k [] h = ap (cards_of facts words) (let z : k + 0 ≡ k = omega arith in z) ∙ sym (append-nil (cards_of facts words k))

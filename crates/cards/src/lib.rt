@@ -4,7 +4,6 @@
 ghost use Rattle.std.specs.Prelude.{◌≡◌, ◌≤◌, length, replicate};
 ghost use Rattle.limits.specs.Limits.{card_memory_bytes, max_definitions};
 ghost use Rattle.rules.specs.Run.{overwrite};
-ghost use Rattle.store.specs.Store.{held};
 ghost use Rattle.cards.specs.Cards.{cards_of};
 
 use context::lookup::params_at;
@@ -18,28 +17,17 @@ pub fn clear_cards(cards: &mut [u8])
     requires { card_memory_bytes ≤ length cards.old }
     ensures { cards.new ≡ overwrite (replicate card_memory_bytes 0) cards.old }
 {
-    let mut i: usize = 0;
-    while i < Limits::CARD_MEMORY_BYTES {
-        cards[i] = 0;
-        i += 1;
-    }
+    cards[..Limits::CARD_MEMORY_BYTES].fill(0);
 }
 
 // The card of each of the first n definitions, from the table of forms.
-pub fn fill_cards(
-    store: &[u16; Store::LENGTH],
-    words: &[u64; Lent::WORDS],
-    n: usize,
-    cards: &mut [u8],
-)
+pub fn fill_cards(store: &Store, words: &[u64; Lent::WORDS], n: usize, cards: &mut [u8])
     requires { (n ≤ max_definitions) × (card_memory_bytes ≤ length cards.old) }
-    ensures { cards.new ≡ overwrite (cards_of (held store.now).facts words.now n) cards.old }
+    ensures { cards.new ≡ overwrite (cards_of store.now.facts words.now n) cards.old }
 {
-    let mut g: usize = 0;
-    while g < n {
+    for g in 0..n {
         let f = form_at(words, g);
         let k = params_at(store, g);
         fill(f, k, cards, Limits::CARD_BYTES * g);
-        g += 1;
     }
 }

@@ -5,7 +5,7 @@ use borrow.Author.Tests.{eq-eqb, le-ltb, lt-ltb, ne_eqb}
 use lib.Dec.{ltb}
 use native.Mathlib.Nat.{add-zero, div-mul-le_self, le-div_iff_mul-le, mul-le-mul_right, zero-add}
 use native.Mathlib.Omega.{arith}
-use Prim.Native.Nat.{ℕ, zero, suc, ◌+◌, ◌*◌, ◌/◌, ◌%◌, ◌<◌, ◌≤◌, min}
+use Prim.Native.Nat.{ℕ, zero, suc, ◌+◌, ◌*◌, ◌/◌, ◌<◌, ◌≤◌, min}
 use Rattle.rewriting.specs.Ends.{places_in, places_of}
 use Rattle.cells.specs.Table.{Sized, row_bytes}
 use Rattle.cells.specs.declared.Layout.{Layout}
@@ -73,3 +73,6 @@ module _ (h : ℕ) where
         go : (f : ℕ) → k + f ≡ max_params → k + places_in f rest ≡ places_of h → k ≡ places_of h
         go zero p q = sym (add-zero k) ∙ q
         go (suc f) p q = absurd (omega arith)
+
+    pub counted-end : max_params ≤ k → max_params ≡ places_of h
+    counted-end l = let z : k ≡ max_params = omega (arith, counted-few) in sym z ∙ counted-all l

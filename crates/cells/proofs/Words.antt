@@ -1,13 +1,13 @@
 -- Numbers of four bytes, put and read, and where the table has them.
 use mathlib.Core.List.{List}
-use mathlib.Core.Path.{◌≡◌, ◌∙◌, ap, ap₂, refl, sym}
+use mathlib.Core.Path.{◌≡◌, ◌∙◌, refl}
 use lib.ListN.{get_or, length}
 use lib.Seq.{sets}
 use native.Mathlib.Nat.{mul_comm, mul-le-mul_right}
 use native.Mathlib.Numerals.{add-one}
 use native.Mathlib.Omega.{arith}
 use native.Mathlib.Decide.{dec_lt}
-use Prim.Native.Nat.{ℕ, suc, ◌+◌, ◌*◌, ◌/◌, ◌%◌, ◌^◌, ◌<◌, ◌≤◌}
+use Prim.Native.Nat.{ℕ, suc, ◌+◌, ◌*◌, ◌^◌, ◌<◌, ◌≤◌}
 use Rattle.strings.proofs.Written.{sets-above, sets-at, sets_below}
 use Rattle.cells.specs.Table.{Sized}
 use Rattle.cells.specs.Words.{four, word_at}

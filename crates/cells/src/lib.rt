@@ -63,21 +63,13 @@ fn places_of(h: u32) -> usize
     ensures { (result ≡ places_of h) × (result ≤ max_params) }
 {
     let mut rest = h;
-    let mut k: usize = 0;
-    while k < Shape::PARAMS {
+    for k in 0..Shape::PARAMS {
         if rest == 0 {
             return k;
         }
         rest = rest / 2;
-        k += 1;
     }
-    k
-}
-
-fn lesser(a: usize, b: usize) -> usize
-    ensures { result ≡ min a b }
-{
-    if a < b { a } else { b }
+    Shape::PARAMS
 }
 
 // The layout of a table of so many bytes, for calls of shape h.
@@ -90,7 +82,7 @@ pub fn layout_of(h: u32, bytes: usize) -> Layout
     Layout {
         places,
         stride,
-        room: lesser(bytes / 4 / stride, Layout::CALLS),
+        room: (bytes / 4 / stride).min(Layout::CALLS),
     }
 }
 
@@ -109,10 +101,5 @@ pub fn next_rank(rank: usize, room: usize, call: bool) -> usize
     requires { rank < 2 ^ 48 }
     ensures { (result ≡ cond call (cond (ltb rank room) (rank + 1) rank) rank) × (result ≤ max rank room) }
 {
-    if call {
-        if rank < room {
-            return rank + 1;
-        }
-    }
-    rank
+    if call && rank < room { rank + 1 } else { rank }
 }

@@ -5,16 +5,18 @@ use mathlib.Core.List.{List}
 use mathlib.Core.Logic.{◌⊎◌, ◌≢◌, inl, inr}
 use mathlib.Core.Path.{◌∙◌, ◌≡◌, ap, refl, subst, sym}
 use lib.Dec.{eqb, ltb}
-use lib.ListN.{get_or, length}
+use lib.ListN.{get_or}
 use native.Mathlib.Omega.{arith}
 use Prim.Native.Nat.{◌+◌, ◌-◌, ◌<◌, ◌≤◌, ℕ}
 use Rattle.limits.specs.Limits.{max_arity, max_declarations, max_definitions}
 use Rattle.rules.specs.State.{State}
 use Rattle.texts.specs.Text.{Declarations}
-use Rattle.levels.specs.Tables.{names_of, table_words}
+use Rattle.levels.specs.Tables.{names_of}
 use Rattle.levels.specs.Walk.{TextForm}
 use Rattle.context.specs.Entries.{field_code, instance_kind}
-use Rattle.store.specs.Store.{Store, first_at, kind_at, link_at, source_at}
+use Rattle.store.specs.Store.{first_at, kind_at, link_at, source_at}
+use Rattle.store.specs.declared.Store.{Store}
+use Rattle.store.specs.declared.Facts.{Facts}
 use Rattle.context.specs.declared.Counts.{Counts}
 use Rattle.worlds.proofs.Invariant.{length-meanings}
 use Rattle.worlds.specs.Rows.{Row, no_row}
@@ -26,20 +28,16 @@ use Rattle.chains.proofs.Chain.{Walked, few-params, ok, walked_on, walked_start,
 use Rattle.chains.proofs.Linking.{Within, fits-within, within-fits}
 
 pub record Along (file refs words : List ℕ) (v : Store) (declared : List ℕ) (n d : ℕ) (numbers inner : List ℕ) (outer cur : ℕ) : Type 0 where
-  pub numbers_size : length numbers ≡ max_definitions
-  pub inner-size : length inner ≡ table_words
   pub outer-few : outer ≤ max_arity
   pub cur-few : cur < max_definitions
   pub room : n ≤ max_declarations
   pub walked : (c : Counts) (s : State) (rs : List Row) (decls : Declarations) (end : ℕ) (ready : Ready file refs v declared n c s rs decls end) → d < c.definitions
       → DeclaredForms words decls → Walked words s rs ready.worlds.runs decls d numbers inner outer cur
 
-pub along-start : (file refs words : List ℕ) (v : Store) (declared : List ℕ) (n d : ℕ) (numbers : List ℕ) → Itselves numbers → length words ≡ table_words
+pub along-start : (file refs words : List ℕ) (v : Store) (declared : List ℕ) (n d : ℕ) (numbers : List ℕ) → Itselves numbers
     → n ≤ max_declarations → d < max_definitions → Along file refs words v declared n d numbers words 0 d
-along-start file refs words v declared n d numbers i l room h =
+along-start file refs words v declared n d numbers i room h =
     record {
-      numbers_size = i.size;
-      inner-size = l;
       outer-few = omega arith;
       cur-few = h;
       room = room;
@@ -48,12 +46,12 @@ along-start file refs words v declared n d numbers i l room h =
     }
 
 -- what a step that fits has
-pub record Fitted (facts : List ℕ) (outer cur : ℕ) : Type 0 where
+pub record Fitted (facts : List Facts) (outer cur : ℕ) : Type 0 where
   pub linked : 0 < link_at facts cur
   pub below : source_at facts cur < cur
   pub link : link_fits facts outer (code_at facts cur) ≡ true
 
-fitted : (facts : List ℕ) (outer cur : ℕ) → step_fits facts outer cur ≡ true → Fitted facts outer cur
+fitted : (facts : List Facts) (outer cur : ℕ) → step_fits facts outer cur ≡ true → Fitted facts outer cur
 unfolding step_fits
 fitted facts outer cur e = go (eqb (link_at facts cur) 0) refl (ltb (source_at facts cur) cur) refl e
   where
@@ -64,7 +62,7 @@ fitted facts outer cur e = go (eqb (link_at facts cur) 0) refl (ltb (source_at f
         record { linked = let n : link_at facts cur ≢ 0 = eqb-false (link_at facts cur) 0 o in omega arith; below = ltb-true (source_at facts cur) cur p; link = q }
     go false o false p q = absurd (let z : ◌≡◌ {A = ℕ} 0 1 = cc in omega arith)
 
-fits : (facts : List ℕ) (outer cur : ℕ) → 0 < link_at facts cur → source_at facts cur < cur → link_fits facts outer (code_at facts cur) ≡ true
+fits : (facts : List Facts) (outer cur : ℕ) → 0 < link_at facts cur → source_at facts cur < cur → link_fits facts outer (code_at facts cur) ≡ true
     → step_fits facts outer cur ≡ true
 unfolding step_fits
 fits facts outer cur l h e =
@@ -106,8 +104,6 @@ module _ (file refs words : List ℕ) (v : Store) (declared : List ℕ) (n d : �
   along-turn numbers' inner' outer' cur' x e po pc =
       let f = fitted v.facts outer cur e in
       record {
-        numbers_size = x.numbering.size;
-        inner-size = x.replaced.size ∙ along.inner-size;
         outer-few = omega (arith, po, (fits-within v.facts outer (code_at v.facts cur) f.link).params);
         cur-few = omega (arith, pc, f.below, along.cur-few);
         room = along.room;
@@ -151,35 +147,35 @@ module _ (file refs words : List ℕ) (v : Store) (declared : List ℕ) (n d : �
 
 -- What the code reads
 
-pub step-unlinked : (facts : List ℕ) (outer cur l : ℕ) → l ≡ link_at facts cur → l ≡ 0 → false ≡ step_fits facts outer cur
+pub step-unlinked : (facts : List Facts) (outer cur l : ℕ) → l ≡ link_at facts cur → l ≡ 0 → false ≡ step_fits facts outer cur
 unfolding step_fits
 step-unlinked facts outer cur l e z = rw (eq-eqb (link_at facts cur) 0 (sym e ∙ z)) refl
 
-pub step-linked : (facts : List ℕ) (outer cur l f o : ℕ) (r : Bool) → r ≡ link_fits facts outer o → o ≡ code_at facts cur → l ≡ link_at facts cur → l ≢ 0
+pub step-linked : (facts : List Facts) (outer cur l f o : ℕ) (r : Bool) → r ≡ link_fits facts outer o → o ≡ code_at facts cur → l ≡ link_at facts cur → l ≢ 0
     → f ≡ source_at facts cur → f < cur → r ≡ step_fits facts outer cur
 unfolding step_fits
 step-linked facts outer cur l f o r e q i n p h =
     rw (ne_eqb (link_at facts cur) 0 (λ (z : link_at facts cur ≡ 0). n (i ∙ z)), lt-ltb (source_at facts cur) cur (omega arith)) (e ∙ ap (link_fits facts outer) q)
 
-pub step-up : (facts : List ℕ) (outer cur l f : ℕ) → l ≡ link_at facts cur → l ≢ 0 → f ≡ source_at facts cur → cur ≤ f → false ≡ step_fits facts outer cur
+pub step-up : (facts : List Facts) (outer cur l f : ℕ) → l ≡ link_at facts cur → l ≢ 0 → f ≡ source_at facts cur → cur ≤ f → false ≡ step_fits facts outer cur
 unfolding step_fits
 step-up facts outer cur l f i n p h =
     rw (ne_eqb (link_at facts cur) 0 (λ (z : link_at facts cur ≡ 0). n (i ∙ z)), le-ltb (source_at facts cur) cur (omega arith)) refl
 
-pub has-link : (facts : List ℕ) (outer cur : ℕ) → step_fits facts outer cur ≡ true → 0 < link_at facts cur
+pub has-link : (facts : List Facts) (outer cur : ℕ) → step_fits facts outer cur ≡ true → 0 < link_at facts cur
 has-link facts outer cur e = (fitted facts outer cur e).linked
 
-pub step-kind : (facts : List ℕ) (outer cur o k : ℕ) → k ≡ kind_at facts o → o ≡ code_at facts cur → step_fits facts outer cur ≡ true → instance_kind ≤ k
+pub step-kind : (facts : List Facts) (outer cur o k : ℕ) → k ≡ kind_at facts o → o ≡ code_at facts cur → step_fits facts outer cur ≡ true → instance_kind ≤ k
 step-kind facts outer cur o k p q e =
     omega (arith, (fits-within facts outer (code_at facts cur) (fitted facts outer cur e).link).kind, p ∙ ap (kind_at facts) q)
 
-pub outer-read : (facts : List ℕ) (outer cur o k r : ℕ) → k ≡ kind_at facts o → o ≡ code_at facts cur → r ≡ outer + (k - instance_kind) → r ≡ outer_after facts outer cur
+pub outer-read : (facts : List Facts) (outer cur o k r : ℕ) → k ≡ kind_at facts o → o ≡ code_at facts cur → r ≡ outer + (k - instance_kind) → r ≡ outer_after facts outer cur
 outer-read facts outer cur o k r p q e = e ∙ ap (λ (m : ℕ). outer + (m - instance_kind)) (p ∙ ap (kind_at facts) q)
 
-pub step-link : (facts : List ℕ) (outer cur o : ℕ) → o ≡ code_at facts cur → step_fits facts outer cur ≡ true → link_fits facts outer o ≡ true
+pub step-link : (facts : List Facts) (outer cur o : ℕ) → o ≡ code_at facts cur → step_fits facts outer cur ≡ true → link_fits facts outer o ≡ true
 step-link facts outer cur o q e = ap (link_fits facts outer) q ∙ (fitted facts outer cur e).link
 
-pub step_less : (facts : List ℕ) (outer cur m : ℕ) → m ≡ source_at facts cur → step_fits facts outer cur ≡ true → m < cur
+pub step_less : (facts : List Facts) (outer cur m : ℕ) → m ≡ source_at facts cur → step_fits facts outer cur ≡ true → m < cur
 step_less facts outer cur m p e = omega (arith, (fitted facts outer cur e).below)
 
 pub link-at : (file refs : List ℕ) (v : Store) (declared : List ℕ) (n outer o cur : ℕ) (numbers numbers' inner inner' : List ℕ)

@@ -14,7 +14,7 @@ use Rattle.texts.specs.Text.{Declarations}
 use Rattle.forms.specs.Forms.{form_at, level_at, stored}
 use Rattle.forms.proofs.Tables.{load-other, load_same, stored-length}
 use Rattle.levels.specs.Tables.{table_words}
-use Rattle.store.specs.Store.{Store}
+use Rattle.store.specs.declared.Store.{Store}
 use Rattle.context.specs.declared.Counts.{Counts}
 use Rattle.worlds.specs.Rows.{Row}
 use Rattle.chains.specs.Ready.{DeclaredForms, FormsBelow, Ready}
@@ -79,18 +79,17 @@ module _ (file refs : List ℕ) (v : Store) (declared : List ℕ) (n : ℕ) wher
 -- so far, the first i of them
 pub record Brings (file refs : List ℕ) (v : Store) (declared : List ℕ) (n first count : ℕ) (words words' : List ℕ) (i : ℕ) : Type 0 where
   pub brought : BroughtForms file refs v declared n first i words words'
-  pub long : length words' ≡ table_words
   pub few : i ≤ count
 
-pub brings-start : (file refs : List ℕ) (v : Store) (declared : List ℕ) (n first count : ℕ) (words : List ℕ) → length words ≡ table_words
+pub brings-start : (file refs : List ℕ) (v : Store) (declared : List ℕ) (n first count : ℕ) (words : List ℕ)
     → Brings file refs v declared n first count words words 0
-brings-start file refs v declared n first count words l = record { brought = bring-start file refs v declared n first words; long = l; few = omega arith }
+brings-start file refs v declared n first count words = record { brought = bring-start file refs v declared n first words; few = omega arith }
 
 pub brings-turn : (file refs : List ℕ) (v : Store) (declared : List ℕ) (n first count : ℕ) (words words' words'' : List ℕ) (i : ℕ)
     → Brings file refs v declared n first count words words' i → FormBrought file refs v declared n (first + i) words' words'' → i < count
     → Brings file refs v declared n first count words words'' (i + 1)
 brings-turn file refs v declared n first count words words' words'' i x y h =
-    record { brought = bring-turn file refs v declared n first i words words' words'' x.brought y; long = y.size ∙ x.long; few = omega arith }
+    record { brought = bring-turn file refs v declared n first i words words' words'' x.brought y; few = omega arith }
 
 pub brings-whole : (file refs : List ℕ) (v : Store) (declared : List ℕ) (n first count : ℕ) (words words' : List ℕ) (i : ℕ)
     → Brings file refs v declared n first count words words' i → count ≤ i → BroughtForms file refs v declared n first count words words'

@@ -27,7 +27,8 @@ use Rattle.forms.proofs.Forms.{at_low}
 use Rattle.levels.specs.Tables.{names_of}
 use Rattle.levels.specs.Walk.{TextForm}
 use Rattle.context.specs.Entries.{codes_of, field_code, instance_kind, order_of}
-use Rattle.store.specs.Store.{Store, first_at, kind_at, link_at}
+use Rattle.store.specs.Store.{first_at, kind_at, link_at}
+use Rattle.store.specs.declared.Store.{Store}
 use Rattle.context.specs.declared.Counts.{Counts}
 use Rattle.worlds.proofs.File.{MeansBelow, definition-by-tables, is-text, world-params}
 use Rattle.worlds.proofs.InWorld.{Comes, LinkOk}

@@ -3,18 +3,15 @@ use mathlib.Core.List.{List}
 use mathlib.Core.Path.{◌≡◌, ap, refl, subst, sym}
 use lib.ListN.{get_or}
 use Prim.Native.Nat.{◌<◌, suc, zero, ℕ}
-use Rattle.limits.specs.Limits.{max_definitions, max_nesting}
+use Rattle.limits.specs.Limits.{max_definitions}
 use Rattle.theory.specs.Expand.{params_from}
 use Rattle.theory.specs.Term.{Arities, Fits, Kind, Term, WellFormed, kind_arity}
 use Rattle.theory.specs.Tree.{count}
-use Rattle.tokens.specs.Expr.{Expr, expr_at, found}
 use Rattle.texts.specs.Text.{Declarations, ref_head}
-use Rattle.text_levels.proofs.OwnWorld.{Tokens, tokens-found}
-use Rattle.store.specs.Store.{Store}
+use Rattle.store.specs.declared.Store.{Store}
 use Rattle.worlds.specs.World.{AnyName, Declared, Names, Uses, World}
 use Rattle.entering.specs.declared.substitutes.Site.{Site}
-use Rattle.entering.specs.declared.written.Writing.{Writing}
-use Rattle.entering.specs.declared.written.Writing.TheVariants.{Written, Unwritten}
+use Rattle.std.specs.Prelude.{Option as Answer, Some, None}
 use Rattle.entering.specs.Implied.{implied_ref}
 use Rattle.entering.proofs.Joining.{ImpliedText, Known, WrittenText}
 use Rattle.standing.specs.Shown.{ImpliedShown, StandsFor, TextShown}
@@ -36,9 +33,6 @@ pub record FormedIn (ar : Arities) (w : World) (n : ℕ) (u : Term) : Type 0 whe
   pub names : Names (Declared AnyName w) u
   pub uses : Uses (DefinedIn w) u
 
-found-tokens : (file : List ℕ) (at e : ℕ) (t : Expr) → expr_at max_nesting file at ≡ found t e → Tokens t
-found-tokens file at e t q = let h = tokens-found max_nesting file at in rw q at h
-
 count-params : (i p : ℕ) → count (params_from i p) ≡ p
 count-params i zero = refl
 count-params i (suc p) = ap suc (count-params (suc i) p)
@@ -53,7 +47,7 @@ module _ (file refs : List ℕ) (v : Store) (decls : Declarations) (end : ℕ) (
         stands = t.stands;
         kept = t.kept;
         names =
-            text-names refs decls (Declared AnyName w) (DefinedIn w) t.text (found-tokens file at t.next t.text t.stands) t.below
+            text-names refs decls (Declared AnyName w) (DefinedIn w) t.text t.below
             (subst (Names (Declared AnyName w)) (sym t.same) p.names) (subst (Uses (DefinedIn w)) (sym t.same) p.uses);
         formed = subst (WellFormed ar n 0) (sym t.same) p.formed;
         same = t.same;
@@ -73,10 +67,10 @@ module _ (file refs : List ℕ) (v : Store) (decls : Declarations) (end : ℕ) (
       }
 
   -- either, for the declaration of that name, whose code is o
-  pub stands-known : (site : Site) (n : ℕ) (k : Kind) (x o : ℕ) (u : Term) → get_or v.names o 0 ≡ x → FormedIn ar w n u → (y : Writing)
+  pub stands-known : (site : Site) (n : ℕ) (k : Kind) (x o : ℕ) (u : Term) → get_or v.names o 0 ≡ x → FormedIn ar w n u → (y : Answer ℕ)
       → StandsFor v file refs decls end site.owner site.params k x u y
       → Known (around_link file refs v numbers inner) site decls (NamedIn decls w) (DefinedIn w) ar n k o u y
-  stands-known site n k x o u e p (Written at) h = written_known n at u p h
-  stands-known site n k x o u e p Unwritten h =
+  stands-known site n k x o u e p (Some at) h = written_known n at u p h
+  stands-known site n k x o u e p None h =
       subst (λ (z : ℕ). ImpliedText decls (NamedIn decls w) (DefinedIn w) ar n site.params k (implied_ref v.names v.facts v.contexts v.heads site.owner z) u) (sym e)
       (implied-known n site.owner site.params k x u p h)

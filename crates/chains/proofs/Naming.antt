@@ -12,12 +12,11 @@ use Rattle.theory.specs.Level.{binds_in}
 use Rattle.theory.specs.Term.{Every, Everys, Kind, binder, declared, defined}
 use Rattle.theory.specs.Tree.{◌▹◌, count, map_trees, node, ⟨⟩}
 use Rattle.tokens.specs.Expr.{Expr, Exprs, Placed}
-use Rattle.tokens.specs.Token.{is_token}
 use Rattle.tokens.specs.declared.Token.{Token}
-use Rattle.tokens.specs.declared.Token.TheVariants.{Parameter, Bound, Name, InstanceOperator, BuiltIn, Literal, NoToken}
+use Rattle.tokens.specs.declared.Token.TheVariants.{Parameter, Bound, Name, InstanceOperator, BuiltIn, Literal}
 use Rattle.texts.specs.Noted.{is_name}
 use Rattle.texts.specs.Text.{Declarations, no_declaration, ref_head, shown, token_head}
-use Rattle.text_levels.proofs.OwnWorld.{AllRefsBelow, RefsBelow, Tokens, TokensAll}
+use Rattle.text_levels.proofs.OwnWorld.{AllRefsBelow, RefsBelow}
 use Rattle.worlds.specs.World.{AnyDefinition, AnyName, HeadMentions, Names, Uses}
 use Rattle.entering.specs.Shows.{OneOf, Resolved, TextNames, TextsName, TokenNames}
 
@@ -37,31 +36,30 @@ module _ (refs : List ℕ) (decls : Declarations) (N : Kind → ℕ → Type 0) 
       go true e n u = u
       go false e n u = (omega (arith, ltb-false r max_definitions e), n)
 
-  token-names : (t : Token) (at k m : ℕ) → is_token t ≡ true → (is_name t ≡ true → get_or refs at 0 < max_definitions + length decls)
+  token-names : (t : Token) (at k m : ℕ) → (is_name t ≡ true → get_or refs at 0 < max_definitions + length decls)
       → HeadMentions N AnyDefinition k (token_head refs decls at t) m → HeadMentions AnyName F k (token_head refs decls at t) m → TokenNames (Numbered decls N) F refs at t
-  token-names (Parameter i) at k m q b n u = tt
-  token-names (Bound j) at k m q b n u = tt
-  token-names (Name x a) at k m q b n u = resolved (get_or refs at 0) k m (b refl) n u
-  token-names (InstanceOperator i x a) at k m q b n u = resolved (get_or refs at 0) k m (b refl) n u
-  token-names (BuiltIn c) at k m q b n u = tt
-  token-names (Literal x) at k m q b n u = tt
-  token-names NoToken at k m q b n u = absurd (let z : ◌≡◌ {A = ℕ} 0 1 = cc in omega arith)
+  token-names (Parameter i) at k m b n u = tt
+  token-names (Bound j) at k m b n u = tt
+  token-names (Name x a) at k m b n u = resolved (get_or refs at 0) k m (b refl) n u
+  token-names (InstanceOperator i x a) at k m b n u = resolved (get_or refs at 0) k m (b refl) n u
+  token-names (BuiltIn c) at k m b n u = tt
+  token-names (Literal x) at k m b n u = tt
 
   mutual
-    names_at : (t : Expr) (k : ℕ) → Tokens t → RefsBelow (max_definitions + length decls) refs t → Every (HeadMentions N AnyDefinition) k (shown refs decls t)
+    names_at : (t : Expr) (k : ℕ) → RefsBelow (max_definitions + length decls) refs t → Every (HeadMentions N AnyDefinition) k (shown refs decls t)
         → Every (HeadMentions AnyName F) k (shown refs decls t) → TextNames (Numbered decls N) F refs t
-    names_at (node h ts) k q b n u = (
-      token-names h.token h.at k (count (map_trees (λ (h : Placed). token_head refs decls h.at h.token) ts)) q.0 b.0 n.0 u.0,
-      all-names-at ts k (binds_in (binder (token_head refs decls h.at h.token))) q.1 b.1 n.1 u.1,
+    names_at (node h ts) k b n u = (
+      token-names h.token h.at k (count (map_trees (λ (h : Placed). token_head refs decls h.at h.token) ts)) b.0 n.0 u.0,
+      all-names-at ts k (binds_in (binder (token_head refs decls h.at h.token))) b.1 n.1 u.1,
     )
 
-    all-names-at : (ts : Exprs) (k : ℕ) (c : ℕ → ℕ) → TokensAll ts → AllRefsBelow (max_definitions + length decls) refs ts
+    all-names-at : (ts : Exprs) (k : ℕ) (c : ℕ → ℕ) → AllRefsBelow (max_definitions + length decls) refs ts
         → Everys (HeadMentions N AnyDefinition) k c (map_trees (λ (h : Placed). token_head refs decls h.at h.token) ts)
         → Everys (HeadMentions AnyName F) k c (map_trees (λ (h : Placed). token_head refs decls h.at h.token) ts) → TextsName (Numbered decls N) F refs ts
-    all-names-at ⟨⟩ k c q b n u = tt
-    all-names-at (t ▹ ts) k c q b n u = (names_at t (c 0 + k) q.0 b.0 n.0 u.0, all-names-at ts k (λ i. c (suc i)) q.1 b.1 n.1 u.1)
+    all-names-at ⟨⟩ k c b n u = tt
+    all-names-at (t ▹ ts) k c b n u = (names_at t (c 0 + k) b.0 n.0 u.0, all-names-at ts k (λ i. c (suc i)) b.1 n.1 u.1)
 
   -- a text whose term names only declarations with N and definitions with F
-  pub text-names : (t : Expr) → Tokens t → RefsBelow (max_definitions + length decls) refs t → Names N (shown refs decls t) → Uses F (shown refs decls t)
+  pub text-names : (t : Expr) → RefsBelow (max_definitions + length decls) refs t → Names N (shown refs decls t) → Uses F (shown refs decls t)
       → TextNames (Numbered decls N) F refs t
-  text-names t q b n u = names_at t 0 q b n u
+  text-names t b n u = names_at t 0 b n u

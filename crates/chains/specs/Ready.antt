@@ -8,7 +8,7 @@ use Rattle.rules.specs.State.{State, card_level, params_of}
 use Rattle.laws.proofs.Sound.{SoundFrom}
 use Rattle.texts.specs.Text.{Declarations, no_declaration}
 use Rattle.forms.specs.Forms.{form_at, level_at}
-use Rattle.store.specs.Store.{Store}
+use Rattle.store.specs.declared.Store.{Store}
 use Rattle.context.specs.declared.Counts.{Counts}
 use Rattle.worlds.specs.Rows.{Row, text_of, world_of}
 use Rattle.worlds.specs.World.{AllDeclared, AnyName}

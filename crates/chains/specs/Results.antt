@@ -6,7 +6,7 @@ use Rattle.theory.specs.Lists.{All}
 use Rattle.rules.specs.State.{State, card_level, params_of}
 use Rattle.texts.specs.Text.{Declarations}
 use Rattle.forms.specs.Forms.{form_at, level_at}
-use Rattle.store.specs.Store.{Store}
+use Rattle.store.specs.declared.Store.{Store}
 use Rattle.context.specs.declared.Counts.{Counts}
 use Rattle.worlds.specs.Rows.{Row}
 use Rattle.chains.specs.Ready.{DeclaredForms, FormsBelow, Ready}

@@ -2,7 +2,9 @@
 use Rattle.std.specs.Prelude.{Bool, cond, false, true, List, ◌≡◌, ℕ, ◌+◌, ◌-◌, ◌/◌, ◌%◌, eqb, ltb, length}
 use Rattle.limits.specs.Limits.{max_arity, max_definitions, max_modules}
 use Rattle.context.specs.Entries.{context_codes, field_code, instance_kind, order_of}
-use Rattle.store.specs.Store.{Store, first_at, kind_at, link_at, source_at, via_at}
+use Rattle.store.specs.Store.{first_at, kind_at, link_at, source_at, via_at}
+use Rattle.store.specs.declared.Store.{Store}
+use Rattle.store.specs.declared.Facts.{Facts}
 use Rattle.standing.specs.Shown.{owner_shift}
 use Rattle.entering.specs.declared.substitutes.Site.{Site}
 use Rattle.entering.specs.Numbering.{Entered}
@@ -21,7 +23,7 @@ site_by outer kind source link =
     }
 
 -- the one of code o
-abbrev pub site_of : List ℕ → ℕ → ℕ → Site
+abbrev pub site_of : List Facts → ℕ → ℕ → Site
 site_of facts outer o = site_by outer (kind_at facts o) (source_at facts o) (link_at facts o)
 
 -- columns within the limits
@@ -33,10 +35,10 @@ columns_fit outer kind first via link =
     (cond (ltb max_modules via) false
     (cond (ltb max_modules (link / owner_shift)) false true))))
 
-abbrev pub link_fits : List ℕ → ℕ → ℕ → Bool
+abbrev pub link_fits : List Facts → ℕ → ℕ → Bool
 link_fits facts outer o = columns_fit outer (kind_at facts o) (first_at facts o) (via_at facts o) (link_at facts o)
 
-pub record SiteMade (facts : List ℕ) (outer o : ℕ) (r : Site) : Type 0 where
+pub record SiteMade (facts : List Facts) (outer o : ℕ) (r : Site) : Type 0 where
   pub same : r ≡ site_of facts outer o
   pub fitting : Fitting r
 
@@ -44,7 +46,7 @@ abbrev pub around_link : List ℕ → List ℕ → Store → List ℕ → List �
 around_link file refs v numbers inner = around file refs numbers inner v.names v.facts v.contexts v.heads
 
 -- The numbers of the world of the field have become those of the world one instance further in: `old` is what stood where they were put.
-pub record NumbersEntered (facts orders heads : List ℕ) (o : ℕ) (numbers numbers' : List ℕ) : Type 0 where
+pub record NumbersEntered (facts : List Facts) (orders heads : List ℕ) (o : ℕ) (numbers numbers' : List ℕ) : Type 0 where
   pub old : List ℕ
   pub old_size : length old ≡ max_definitions
   pub size : length numbers' ≡ max_definitions
@@ -60,14 +62,14 @@ pub record LinkEntered (file refs : List ℕ) (v : Store) (declared : List ℕ) 
   pub replaced : Replaced next inner inner'
 
 -- the code of the INSTANCE field that brought a definition
-abbrev pub code_at : List ℕ → ℕ → ℕ
+abbrev pub code_at : List Facts → ℕ → ℕ
 code_at facts cur = field_code (link_at facts cur - 1)
 
 -- it was brought, from a definition below it and by a field within the limits
-unfoldable pub step_fits : List ℕ → ℕ → ℕ → Bool
+unfoldable pub step_fits : List Facts → ℕ → ℕ → Bool
 step_fits facts outer cur =
     cond (eqb (link_at facts cur) 0) false (cond (ltb (source_at facts cur) cur) (link_fits facts outer (code_at facts cur)) false)
 
 -- the parameters around what that instance brought
-abbrev pub outer_after : List ℕ → ℕ → ℕ → ℕ
+abbrev pub outer_after : List Facts → ℕ → ℕ → ℕ
 outer_after facts outer cur = outer + (kind_at facts (code_at facts cur) - instance_kind)

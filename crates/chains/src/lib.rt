@@ -3,6 +3,5 @@
 #![tactic(auto)]
 
 pub mod brought;
-pub mod copying;
 pub mod link;
 pub mod world;

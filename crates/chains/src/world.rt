@@ -1,49 +1,47 @@
 // The walk along the chain of a definition, and the form of its text at the end.
-ghost use Rattle.std.specs.Prelude.{true, ◌≡◌, ◌≤◌, ◌<◌, ◌*◌, length};
+ghost use Rattle.std.specs.Prelude.{true, ◌≡◌, ◌≤◌, ◌<◌, ◌*◌};
 ghost use Rattle.limits.specs.Limits.{max_arity, max_declarations, max_definitions};
-ghost use Rattle.store.specs.Store.{first_at, held, link_at, source_at};
+ghost use Rattle.store.specs.Store.{first_at, link_at, source_at};
 ghost use Rattle.context.specs.Entries.{word_count};
-ghost use Rattle.levels.specs.Tables.{table_words};
 ghost use Rattle.chains.specs.Walk.{LinkEntered, code_at, outer_after, step_fits};
 ghost use Rattle.chains.specs.Results.{Itselves, WorldForm};
 
-use crate::copying::{copy_forms, number_all};
 use crate::link::{enter_link, link_fits};
 use context::Kinds;
+use levels::names::identity;
 use limits::Limits;
-use store::Store;
-use store::reading::fact_at;
+use store::{Lent, Store};
 
 // The code of the INSTANCE field that brought a definition.
-pub fn code_of(store: &[u16; Store::LENGTH], cur: usize) -> usize
-    requires { (cur < max_definitions) × (0 < link_at (held store.now).facts cur) }
-    ensures { (result ≡ code_at (held store.now).facts cur) × (result ≤ 2 * word_count) }
+pub fn code_of(store: &Store, cur: usize) -> usize
+    requires { (cur < max_definitions) × (0 < link_at store.now.facts cur) }
+    ensures { (result ≡ code_at store.now.facts cur) × (result ≤ 2 * word_count) }
 {
-    Limits::DEFINITIONS + (fact_at(store, Limits::COLUMNS * cur + 5) as usize - 1)
+    Limits::DEFINITIONS + (store.link_at(cur) as usize - 1)
 }
 
 // The definition that it was brought from.
-pub fn source_of(store: &[u16; Store::LENGTH], cur: usize) -> usize
+pub fn source_of(store: &Store, cur: usize) -> usize
     requires { cur < max_definitions }
-    ensures { result ≡ source_at (held store.now).facts cur }
+    ensures { result ≡ source_at store.now.facts cur }
 {
-    fact_at(store, Limits::COLUMNS * cur + 4) as usize
+    store.source_at(cur) as usize
 }
 
 // Where its text begins.
-pub fn text_of(store: &[u16; Store::LENGTH], cur: usize) -> usize
+pub fn text_of(store: &Store, cur: usize) -> usize
     requires { cur < max_definitions }
-    ensures { result ≡ first_at (held store.now).facts cur }
+    ensures { result ≡ first_at store.now.facts cur }
 {
-    fact_at(store, Limits::COLUMNS * cur + 1) as usize
+    store.first_at(cur) as usize
 }
 
 // Whether it was brought, from one below it and by a field within the limits.
-pub fn step_fits(store: &[u16; Store::LENGTH], outer: usize, cur: usize) -> bool
+pub fn step_fits(store: &Store, outer: usize, cur: usize) -> bool
     requires { (outer ≤ max_arity) × (cur < max_definitions) }
-    ensures { result ≡ step_fits (held store.now).facts outer cur }
+    ensures { result ≡ step_fits store.now.facts outer cur }
 {
-    if fact_at(store, Limits::COLUMNS * cur + 5) == 0 {
+    if store.link_at(cur) == 0 {
         return false;
     }
     if source_of(store, cur) < cur {
@@ -53,11 +51,11 @@ pub fn step_fits(store: &[u16; Store::LENGTH], outer: usize, cur: usize) -> bool
 }
 
 // The parameters around what that instance brought.
-pub fn outer_after(store: &[u16; Store::LENGTH], outer: usize, cur: usize) -> usize
-    requires { (outer ≤ max_arity) × (cur < max_definitions) × (step_fits (held store.now).facts outer cur ≡ true) }
-    ensures { result ≡ outer_after (held store.now).facts outer cur }
+pub fn outer_after(store: &Store, outer: usize, cur: usize) -> usize
+    requires { (outer ≤ max_arity) × (cur < max_definitions) × (step_fits store.now.facts outer cur ≡ true) }
+    ensures { result ≡ outer_after store.now.facts outer cur }
 {
-    let kind = fact_at(store, Limits::COLUMNS * code_of(store, cur));
+    let kind = store.kind_at(code_of(store, cur));
     outer + ((kind - Kinds::INSTANCE) as usize)
 }
 
@@ -65,15 +63,15 @@ pub fn outer_after(store: &[u16; Store::LENGTH], outer: usize, cur: usize) -> us
 fn enter_step(
     file: &[u8],
     refs: &[u16],
-    store: &[u16; Store::LENGTH],
+    store: &Store,
     n: usize,
-    numbers: &mut [u16],
-    inner: &mut [u64],
+    numbers: &mut [u16; Limits::DEFINITIONS],
+    inner: &mut [u64; Lent::WORDS],
     outer: usize,
     cur: usize,
 )
-    requires { (length numbers.old ≡ max_definitions) × (length inner.old ≡ table_words) × (n ≤ max_declarations) × (outer ≤ max_arity) × (cur < max_definitions) × (step_fits (held store.now).facts outer cur ≡ true) }
-    ensures { LinkEntered file.now refs.now (held store.now) (held store.now).declared n outer (code_at (held store.now).facts cur) numbers.old numbers.new inner.old inner.new }
+    requires { (n ≤ max_declarations) × (outer ≤ max_arity) × (cur < max_definitions) × (step_fits store.now.facts outer cur ≡ true) }
+    ensures { LinkEntered file.now refs.now store.now store.now.declared n outer (code_at store.now.facts cur) numbers.old numbers.new inner.old inner.new }
 {
     let o = code_of(store, cur);
     enter_link(file, refs, store, n, numbers, inner, outer, o);
@@ -83,14 +81,14 @@ fn enter_step(
 fn walk_chain(
     file: &[u8],
     refs: &[u16],
-    store: &[u16; Store::LENGTH],
+    store: &Store,
     n: usize,
-    numbers: &mut [u16],
-    inner: &mut [u64],
+    numbers: &mut [u16; Limits::DEFINITIONS],
+    inner: &mut [u64; Lent::WORDS],
     d: usize,
 ) -> u64
-    requires { Itselves numbers.old × (length inner.old ≡ table_words) × (n ≤ max_declarations) × (d < max_definitions) }
-    ensures { WorldForm file.now refs.now inner.old (held store.now) (held store.now).declared n d result }
+    requires { Itselves numbers.old × (n ≤ max_declarations) × (d < max_definitions) }
+    ensures { WorldForm file.now refs.now inner.old store.now store.now.declared n d result }
 {
     let mut outer: usize = 0;
     let mut cur = d;
@@ -106,17 +104,17 @@ fn walk_chain(
 pub fn world_form(
     file: &[u8],
     refs: &[u16],
-    words: &[u64],
-    store: &[u16; Store::LENGTH],
+    words: &[u64; Lent::WORDS],
+    store: &Store,
     n: usize,
     d: usize,
 ) -> u64
-    requires { (length words.now ≡ table_words) × (n ≤ max_declarations) × (d < max_definitions) }
-    ensures { WorldForm file.now refs.now words.now (held store.now) (held store.now).declared n d result }
+    requires { (n ≤ max_declarations) × (d < max_definitions) }
+    ensures { WorldForm file.now refs.now words.now store.now store.now.declared n d result }
 {
     let mut numbers = [0u16; Limits::DEFINITIONS];
-    let mut inner = [0u64; Limits::DEFINITIONS + Limits::DECLARATIONS];
-    number_all(&mut numbers);
-    copy_forms(words, &mut inner);
+    let mut inner = [0u64; Lent::WORDS];
+    identity(&mut numbers);
+    inner.copy_from_slice(words);
     walk_chain(file, refs, store, n, &mut numbers, &mut inner, d)
 }

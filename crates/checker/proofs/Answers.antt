@@ -8,21 +8,21 @@ use native.Mathlib.Omega.{arith}
 use lib.Dec.{ltb}
 use lib.ListN.{length, replicate}
 use Rattle.limits.specs.Limits.{card_memory_bytes, file_bytes, max_definitions}
-use Rattle.limits.specs.Sizes.{store_length}
 use Rattle.theory.proofs.Lists.{or-false}
 use Rattle.rules.specs.Bytes.{is_empty}
 use Rattle.rules.specs.Run.{Answer, Outcome, after_check, and_then, cards_from, file_check, checked, judge_file, memory_after, overwrite, refusal, result}
 use Rattle.rules.specs.State.{State}
 use Rattle.laws.proofs.FileRefusals.{short-memory}
-use Rattle.store.proofs.Regions.{nothing-held}
-use Rattle.store.specs.Store.{Store, empty, held}
+use Rattle.store.specs.declared.Store.{Store}
+use Rattle.store.specs.declared.Facts.{Facts}
 use Rattle.context.specs.declared.Counts.{Counts}
 use Rattle.resolve.proofs.Numbers.{declarations_of}
 use Rattle.cards.specs.Cards.{cards_of}
 use Rattle.checker.specs.Reply.{answer, answer_of}
 use Rattle.checker.specs.Settles.{Concludes, Few, Leaves, Reaches, Settles, wrong_size}
-use Rattle.checker.specs.declared.Reply.TheVariants.{Accepted, Refused}
-use Rattle.checker.specs.declared.Reply.{Reply}
+use Rattle.refusals.specs.declared.Refusal.{Refusal}
+use Rattle.refusals.specs.Outcomes.{refused}
+use Rattle.std.specs.Prelude.{Result, Ok, Err}
 use Rattle.cards.proofs.Shown.{cards-shown}
 
 judged-fields : (file memory : List ℕ) → card_memory_bytes ≤ length memory → is_empty file ≡ false → length file ≤ file_bytes → checked file memory ≡ judge_file file
@@ -33,29 +33,28 @@ judged-fields file memory room some fits =
 cleared : (c p : ℕ) (memory : List ℕ) → (c ≡ 1 → ⊥) → memory_after (refusal c p) memory ≡ overwrite (replicate card_memory_bytes 0) memory
 cleared c p memory h = ap (λ (b : Bool). cond b memory (overwrite (replicate card_memory_bytes 0) memory)) (ne_eqb c 1 h)
 
-cards-reached : (file : List ℕ) (v : Store) (c : Counts) (refs words : List ℕ) (n : ℕ) (x : Reaches file v c refs words n)
+cards-reached : (file : List ℕ) (v : Store) (c : Counts) (refs words : List ℕ) (x : Reaches file v c refs words)
     → cards_of v.facts words c.definitions ≡ cards_from x.state 0 x.state.definitions
-cards-reached file v c refs words n x =
+cards-reached file v c refs words x =
     cards-shown v c x.state words (declarations_of x.fields) x.stands.holds x.stands.within x.stands.forms
 
 -- the lent memory of an accepted file
-pub memory-filled : (file memory after : List ℕ) (v : Store) (c : Counts) (refs words : List ℕ) (n : ℕ) (x : Reaches file v c refs words n)
-    → after ≡ overwrite (cards_of v.facts words n) memory → after ≡ memory_after (result x.state) memory
-memory-filled file memory after v c refs words n x y =
-    y ∙ ap (λ (k : ℕ). overwrite (cards_of v.facts words k) memory) (sym x.counted)
-    ∙ ap (λ (bs : List ℕ). overwrite bs memory) (cards-reached file v c refs words n x)
+pub memory-filled : (file memory after : List ℕ) (v : Store) (c : Counts) (refs words : List ℕ) (x : Reaches file v c refs words)
+    → after ≡ overwrite (cards_of v.facts words c.definitions) memory → after ≡ memory_after (result x.state) memory
+memory-filled file memory after v c refs words x y =
+    y ∙ ap (λ (bs : List ℕ). overwrite bs memory) (cards-reached file v c refs words x)
 
 -- Whatever is asked of a file: what it leaves, by the outcome of the check.
 module _ {A : Type 0} (query : State → Outcome A) (file memory : List ℕ) where
   abbrev left : Outcome State → Answer A
   left o = record { reply = and_then o query; memory = memory_after o memory }
 
-  pub reached-answer : (after : List ℕ) (v : Store) (c : Counts) (refs words : List ℕ) (n : ℕ) (o : Outcome A) → card_memory_bytes ≤ length memory → is_empty file ≡ false → length file ≤ file_bytes
-      → (x : Reaches file v c refs words n) → after ≡ overwrite (cards_of v.facts words n) memory → o ≡ query x.state
+  pub reached-answer : (after : List ℕ) (v : Store) (c : Counts) (refs words : List ℕ) (o : Outcome A) → card_memory_bytes ≤ length memory → is_empty file ≡ false → length file ≤ file_bytes
+      → (x : Reaches file v c refs words) → after ≡ overwrite (cards_of v.facts words c.definitions) memory → o ≡ query x.state
       → answer o after ≡ after_check file memory query
-  reached-answer after v c refs words n o room some fits x y e =
+  reached-answer after v c refs words o room some fits x y e =
       let q : checked file memory ≡ result x.state = judged-fields file memory room some fits ∙ x.accepted in
-      ap₂ answer e (memory-filled file memory after v c refs words n x y) ∙ ap left (sym q)
+      ap₂ answer e (memory-filled file memory after v c refs words x y) ∙ ap left (sym q)
 
   pub refused-answer : (after : List ℕ) (c p : ℕ) → card_memory_bytes ≤ length memory → is_empty file ≡ false → length file ≤ file_bytes → judge_file file ≡ refusal c p
       → after ≡ overwrite (replicate card_memory_bytes 0) memory → answer (refusal c p) after ≡ after_check file memory query
@@ -79,22 +78,24 @@ module _ {A : Type 0} (query : State → Outcome A) (file memory : List ℕ) whe
 abbrev count_reply : State → Outcome ℕ
 count_reply s = result (length s.definitions)
 
-pub check-answered : (file memory after : List ℕ) (v : Store) (c : Counts) (refs words : List ℕ) (r : Reply) → card_memory_bytes ≤ length memory → is_empty file ≡ false → length file ≤ file_bytes
-    → Settles file v c refs words r → Leaves v.facts words r memory after → answer_of r after ≡ file_check file memory
-check-answered file memory after v c refs words (Accepted n) room some fits x y =
-    reached-answer count_reply file memory after v c refs words n (result n) room some fits x y (ap result (sym x.counted ∙ x.stands.holds.definitions))
-check-answered file memory after v d refs words (Refused c p) room some fits x y = refused-answer count_reply file memory after c p room some fits x y
+module _ (file memory after : List ℕ) (v : Store) (refs words : List ℕ) (r : Result Counts Refusal) (room : card_memory_bytes ≤ length memory)
+    (some : is_empty file ≡ false) (fits : length file ≤ file_bytes) (x : Concludes file v refs words r memory after) where
+  pub check-counted : (c : Counts) → r ≡ Ok c → answer (result c.definitions) after ≡ file_check file memory
+  check-counted c e =
+      let reached : Reaches file v c refs words = subst (Settles file v refs words) e x.settles in
+      reached-answer count_reply file memory after v c refs words (result c.definitions) room some fits reached
+      (subst (λ (y : Result Counts Refusal). Leaves v.facts words y memory after) e x.leaves) (ap result reached.stands.holds.definitions)
 
-pub check-concluded : (file memory after : List ℕ) (v : Store) (c : Counts) (refs words : List ℕ) (r : Reply) → card_memory_bytes ≤ length memory → is_empty file ≡ false → length file ≤ file_bytes
-    → Concludes file v c refs words r memory after → answer_of r after ≡ file_check file memory
-check-concluded file memory after v c refs words r room some fits x =
-    check-answered file memory after v c refs words r room some fits x.settles x.leaves
+  pub check-refused : (y : Refusal) → r ≡ Err y → answer (refusal y.cause y.place) after ≡ file_check file memory
+  check-refused y e =
+      refused-answer count_reply file memory after y.cause y.place room some fits (subst (Settles file v refs words) e x.settles)
+      (subst (λ (y : Result Counts Refusal). Leaves v.facts words y memory after) e x.leaves)
 
-pub check-short : (file memory : List ℕ) → length memory < card_memory_bytes → answer_of (Refused 1 0) memory ≡ file_check file memory
+pub check-short : (file memory : List ℕ) → length memory < card_memory_bytes → answer_of (refused 1 0) memory ≡ file_check file memory
 check-short file memory l = short-answer count_reply file memory l
 
 pub check-wrong-size : (file memory after : List ℕ) → card_memory_bytes ≤ length memory → wrong_size file ≡ true → after ≡ overwrite (replicate card_memory_bytes 0) memory
-    → answer_of (Refused 2 0) after ≡ file_check file memory
+    → answer_of (refused 2 0) after ≡ file_check file memory
 check-wrong-size file memory after room wrong e = wrong-size-answer count_reply file memory after room wrong e
 
 -- sizes as the code reads them
@@ -115,21 +116,18 @@ some_bytes file b p q = (or-false (is_empty file) (ltb file_bytes (length file))
 pub few_bytes : (file : List ℕ) (b : Bool) → b ≡ wrong_size file → b ≡ false → length file ≤ file_bytes
 few_bytes file b p q = ltb-false file_bytes (length file) (or-false (is_empty file) (ltb file_bytes (length file)) (sym p ∙ q)).1
 
--- by the reply
-pub few-in : (r : Reply) (n : ℕ) → r ≡ Accepted n → Few r → n ≤ max_definitions
-few-in r n e f = subst Few e f
+-- by how the file is settled
+pub few-in : (r : Result Counts Refusal) (c : Counts) → r ≡ Ok c → Few r → c.definitions ≤ max_definitions
+few-in r c e f = subst Few e f
 
-pub filled_in : (facts words before after : List ℕ) (r : Reply) (n : ℕ) → r ≡ Accepted n → after ≡ overwrite (cards_of facts words n) before → Leaves facts words r before after
-filled_in facts words before after r n e f = subst⁻¹ (λ (y : Reply). Leaves facts words y before after) e f
+pub filled_in : (facts : List Facts) (words before after : List ℕ) (r : Result Counts Refusal) (c : Counts) → r ≡ Ok c
+    → after ≡ overwrite (cards_of facts words c.definitions) before → Leaves facts words r before after
+filled_in facts words before after r c e f = subst⁻¹ (λ (y : Result Counts Refusal). Leaves facts words y before after) e f
 
-pub cleared-in : (facts words before after : List ℕ) (r : Reply) (c p : ℕ) → r ≡ Refused c p → after ≡ overwrite (replicate card_memory_bytes 0) before
-    → Leaves facts words r before after
-cleared-in facts words before after r c p e f = subst⁻¹ (λ (y : Reply). Leaves facts words y before after) e f
+pub cleared-in : (facts : List Facts) (words before after : List ℕ) (r : Result Counts Refusal) (y : Refusal) → r ≡ Err y
+    → after ≡ overwrite (replicate card_memory_bytes 0) before → Leaves facts words r before after
+cleared-in facts words before after r y e f = subst⁻¹ (λ (y : Result Counts Refusal). Leaves facts words y before after) e f
 
-pub settled-few : (file : List ℕ) (v : Store) (c : Counts) (refs words : List ℕ) (r : Reply) → Settles file v c refs words r → Few r
-settled-few file v c refs words (Accepted n) x = omega (arith, x.counted, x.stands.holds.sized.definitions)
-settled-few file v d refs words (Refused c p) x = tt
-
--- nothing was added to a store of zeros
-pub starts-empty : (s : List ℕ) → s ≡ replicate store_length 0 → held s ≡ empty
-starts-empty s e = ap held e ∙ nothing-held
+pub settled-few : (file : List ℕ) (v : Store) (refs words : List ℕ) (r : Result Counts Refusal) → Settles file v refs words r → Few r
+settled-few file v refs words (Ok c) x = x.stands.holds.sized.definitions
+settled-few file v refs words (Err y) x = tt

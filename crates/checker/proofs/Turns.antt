@@ -1,6 +1,6 @@
 -- One field after another: what the loop over the fields knows before each.
 use borrow.Author.Tests.{eq-eqb, eqb-true}
-use mathlib.Core.Bool.{Bool, false, not, true}
+use mathlib.Core.Bool.{Bool, cond, false, true}
 use mathlib.Core.List.{List, [], ◌++◌, ◌∷◌}
 use mathlib.Core.Option.{Option, none, some}
 use mathlib.Core.Path.{◌∙◌, ◌≡◌, ap, refl, subst, subst⁻¹, sym}
@@ -27,7 +27,8 @@ use Rattle.fields.specs.declared.Cursor.{Cursor}
 use Rattle.fields.specs.declared.FieldStep.{FieldStep}
 use Rattle.agree.proofs.Fields.{reads}
 use Rattle.agree.specs.Parts.{IsField}
-use Rattle.store.specs.Store.{Store, empty}
+use Rattle.store.specs.Store.{empty}
+use Rattle.store.specs.declared.Store.{Store}
 use Rattle.context.specs.Entries.{no_counts}
 use Rattle.context.specs.declared.Counts.{Counts}
 use Rattle.levels.specs.Tables.{table_words}
@@ -38,10 +39,13 @@ use Rattle.judge_plain.specs.declared.Phase.TheVariants.{Begun, Inside, Outside}
 use Rattle.judge_plain.specs.declared.Phase.{Phase}
 use Rattle.standing.specs.Standing.{AtField, Judging, Standing, Underway, underway}
 use Rattle.checker.specs.Settles.{Midway, Settles, midway}
-use Rattle.checker.specs.Turned.{Turned, end_reply, stopped, turn_of}
-use Rattle.checker.specs.declared.Reply.TheVariants.{Refused}
-use Rattle.checker.specs.declared.Reply.{Reply}
-use Rattle.checker.specs.declared.judging.Turn.{Turn}
+use Rattle.checker.specs.Turned.{Turned, end_reply, turn_of}
+use Rattle.checker.specs.declared.judging.Next.{Next}
+use Rattle.refusals.specs.declared.Refusal.{Refusal}
+use Rattle.refusals.specs.Outcomes.{refused}
+use Rattle.std.specs.declared.ops.ControlFlow.TheVariants.{Continue, Break}
+use Rattle.std.specs.declared.ops.ControlFlow.{ControlFlow}
+use Rattle.std.specs.Prelude.{Result}
 use Rattle.checker.proofs.Outset.{standing-start}
 use Rattle.checker.proofs.Steps.{is_cut_lem, is-end, is_field, stepped}
 
@@ -157,7 +161,7 @@ module _ (file : List ℕ) (at : Cursor) (known : Bytes file) (short : length fi
         ∙ ap (refusal 3) (sym number ∙ sym (stepped file at).number ∙ sym (ap (λ (y : FieldStep). y.number) e))
 
     pub ends : Midway file at v c p refs words → (x : FieldStep) → x ≡ step_at file at → is_end x.parts ≡ true
-        → Settles file v c refs words (end_reply p c.definitions x.number)
+        → Settles file v refs words (end_reply p c x.number)
     ends (midway fs s rs stands place number same) x e a =
         let r = is-end file (place_of at) (place_of (step_at file at).next) (step_at file at).parts (subst (λ (y : FieldStep). is_end y.parts ≡ true) e a) (reads file at known) in
         let over : judge_file file ≡ end_in s.phase s = same ∙ ap (λ (bs : List ℕ). run bs s) (subst (λ (n : ℕ). drop n file ≡ []) place r.1) ∙ run_end s in
@@ -165,45 +169,34 @@ module _ (file : List ℕ) (at : Cursor) (known : Bytes file) (short : length fi
         go p stands.phase stands over n
       where
         go : (q : Phase) → phase_of q ≡ s.phase → Standing file fs s rs v c q refs words → judge_file file ≡ end_in s.phase s → s.fields ≡ x.number
-            → Settles file v c refs words (end_reply q c.definitions x.number)
+            → Settles file v refs words (end_reply q c x.number)
         go Outside q there over n =
-            record { fields = fs; state = s; rows = rs; stands = there; accepted = over ∙ ap (λ (y : rules.Phase). end_in y s) (sym q); counted = refl }
+            record { fields = fs; state = s; rows = rs; stands = there; accepted = over ∙ ap (λ (y : rules.Phase). end_in y s) (sym q) }
         go Begun q there over n = over ∙ ap (λ (y : rules.Phase). end_in y s) (sym q) ∙ ap (refusal 4) n
         go Inside q there over n = over ∙ ap (λ (y : rules.Phase). end_in y s) (sym q) ∙ ap (refusal 4) n
 
     -- so much for one turn
-    pub turned-end : Midway file at v c p refs words → (x : FieldStep) → x ≡ step_at file at → (b : Bool) → b ≡ is_end x.parts → b ≡ true → (y : Reply)
-        → y ≡ end_reply p c.definitions x.number → (t : Turn) → t ≡ stopped y at p c → Turned file at v refs words t
-    turned-end m x e b a z y q t w =
-        subst⁻¹ (Turned file at v refs words) w
-        (record {
-          over = λ d. subst⁻¹ (Settles file v c refs words) q (ends m x e (sym a ∙ z));
-          onward = λ d. absurd (let z : ◌≡◌ {A = ℕ} 0 1 = cc in omega arith);
-          further = λ d. absurd (let z : ◌≡◌ {A = ℕ} 0 1 = cc in omega arith);
-        })
+    pub settled_end : Midway file at v c p refs words → (x : FieldStep) → x ≡ step_at file at → (b : Bool) → b ≡ is_end x.parts → b ≡ true
+        → (y : Result Counts Refusal) → y ≡ end_reply p c x.number → Settles file v refs words y
+    settled_end m x e b a z y q = subst⁻¹ (Settles file v refs words) q (ends m x e (sym a ∙ z))
 
-    pub turned-cut : Midway file at v c p refs words → (x : FieldStep) → x ≡ step_at file at → (b : Bool) → b ≡ is_cut x.parts → b ≡ true
-        → (t : Turn) → t ≡ stopped (Refused 3 x.number) at p c → Turned file at v refs words t
-    turned-cut m x e b a z t w =
-        subst⁻¹ (Turned file at v refs words) w
-        (record {
-          over = λ d. cut_short m x e (sym a ∙ z);
-          onward = λ d. absurd (let z : ◌≡◌ {A = ℕ} 0 1 = cc in omega arith);
-          further = λ d. absurd (let z : ◌≡◌ {A = ℕ} 0 1 = cc in omega arith);
-        })
+    pub settled-cut : Midway file at v c p refs words → (x : FieldStep) → x ≡ step_at file at → (b : Bool) → b ≡ is_cut x.parts → b ≡ true
+        → judge_file file ≡ refusal 3 x.number
+    settled-cut m x e b a z = cut_short m x e (sym a ∙ z)
 
     pub turned : {v' : Store} {refs' words' : List ℕ} → Midway file at v c p refs words → (x : FieldStep) → x ≡ step_at file at
         → (a b : Bool) → a ≡ is_end x.parts → a ≡ false → b ≡ is_cut x.parts → b ≡ false → (r : Judged)
-        → Judging file x.parts v v' c p r refs refs' words words' → (t : Turn) → t ≡ turn_of r x → Turned file at v' refs' words' t
-    turned {v'} {refs'} {words'} m x e a b i i' k k' r j t w =
-        subst⁻¹ (Turned file at v' refs' words') w
-        (record {
-          over = λ d. turned_down m x e (sym i ∙ i') (sym k ∙ k') r j (λ (q : r.cause ≡ 0). never (sym d ∙ ap not (eq-eqb r.cause 0 q)));
-          onward = λ d. turn m x e (sym i ∙ i') (sym k ∙ k') r j (eqb-true r.cause 0 (not-false (eqb r.cause 0) d));
-          further = λ d. subst⁻¹ (λ (y : FieldStep). (place_of at < place_of y.next) × (place_of y.next ≤ length file)) e
-              (steps_on (subst (λ (y : FieldStep). is_end y.parts ≡ false) e (sym i ∙ i')) (subst (λ (y : FieldStep). is_cut y.parts ≡ false) e (sym k ∙ k')));
-        })
+        → Judging file x.parts v v' c p r refs refs' words words' → (t : ControlFlow (Result Counts Refusal) Next) → t ≡ turn_of r x
+        → Turned file at v' refs' words' t
+    turned {v'} {refs'} {words'} m x e a b i i' k k' r j t w = subst⁻¹ (Turned file at v' refs' words') w (go (eqb r.cause 0) refl)
       where
-        not-false : (b : Bool) → not b ≡ false → b ≡ true
-        not-false true q = refl
-        not-false false q = sym q
+        onward : FieldStep → Next
+        onward y = record { at = y.next; phase = r.phase; counts = r.counts }
+
+        go : (d : Bool) → eqb r.cause 0 ≡ d
+            → Turned file at v' refs' words' (cond {A = ControlFlow (Result Counts Refusal) Next} d (Continue (onward x)) (Break (refused r.cause x.number)))
+        go true d =
+            let further = subst⁻¹ (λ (y : FieldStep). (place_of at < place_of y.next) × (place_of y.next ≤ length file)) e
+            (steps_on (subst (λ (y : FieldStep). is_end y.parts ≡ false) e (sym i ∙ i')) (subst (λ (y : FieldStep). is_cut y.parts ≡ false) e (sym k ∙ k'))) in
+            (turn m x e (sym i ∙ i') (sym k ∙ k') r j (eqb-true r.cause 0 d), further.0, further.1)
+        go false d = turned_down m x e (sym i ∙ i') (sym k ∙ k') r j (λ (q : r.cause ≡ 0). never (sym (eq-eqb r.cause 0 q) ∙ d))

@@ -4,14 +4,14 @@
 // that has to stay are seen. Ends where the input does, or at a number that is more than there is room for.
 #![tactic(auto)]
 
-ghost use Rattle.std.specs.Prelude.{◌≤◌, ◌<◌, length};
+ghost use Rattle.std.specs.Prelude.{◌≤◌, length};
 
 use list_file::Input;
 use rafterclary::rafterclary_check;
-use reading::read_full;
+use records::{checksum, mark, next_number, read_part};
 use std::io;
 use std::io::Read;
-use unpacking::{Number, unpack};
+use unpacking::{Refusal, unpack};
 
 #[derive(Drop)]
 struct Memory;
@@ -21,51 +21,11 @@ impl Memory {
     const BYTES: usize = 40000;
 }
 
-fn wide(x: u8) -> usize
-    ensures { result ≤ 255 }
-{
-    x as usize
-}
-
-// The number that comes next, or one that there is no room for where the input ends.
-fn next_number(from: &mut impl Read) -> io::Result<usize> {
-    let mut head = [0u8; 3];
-    let got = read_full(from, &mut head)?;
-    if got < 3 {
-        return Ok(65536);
-    }
-    Ok(65536 * wide(head[0]) + 256 * wide(head[1]) + wide(head[2]))
-}
-
-// No byte before a check is 0 or a level, and none is as the byte beside it.
-fn mark(memory: &mut [u8]) {
-    for (i, byte) in memory.iter_mut().enumerate() {
-        *byte = 128 + (i % 64) as u8;
-    }
-}
-
-fn checksum(memory: &[u8]) -> usize
-    ensures { result < 65521 }
-{
-    let mut s: usize = 0;
-    for byte in memory {
-        s = (s * 31 + wide(*byte)) % 65521;
-    }
-    s
-}
-
-// A word that ends in a space, a number and a space.
-fn print_number(to: &impl Print, word: &str, x: u64) -> io::Result<()> {
-    print!(to; "{word}{x} ")
-}
-
-fn print_reply(to: &impl Print, reply: Number) -> io::Result<()> {
+// The number of definitions, or the refusal; and a space.
+fn print_reply(to: &impl Print, reply: Result<u32, Refusal<u32>>) -> io::Result<()> {
     match reply {
-        Number::Result(n) => print_number(to, "ok ", n as u64),
-        Number::Refused(c, p) => {
-            print_number(to, "refused ", c as u64)?;
-            print_number(to, "", p as u64)
-        }
+        Ok(n) => print!(to; "ok {n} "),
+        Err(r) => print!(to; "{r} "),
     }
 }
 
@@ -86,20 +46,16 @@ fn check_next(
     space: &mut [u8],
     memory: &mut [u8],
 ) -> io::Result<bool> {
-    let lent = next_number(from)?;
+    let Some(lent) = next_number(from)? else {
+        return Ok(false);
+    };
     if memory.len() < lent {
         return Ok(false);
     }
-    let size = next_number(from)?;
-    if space.len() < size {
+    let Some(size) = read_part(from, space)? else {
         return Ok(false);
-    }
-    let file = &mut space[..size];
-    let got = read_full(from, file)?;
-    if got < size {
-        return Ok(false);
-    }
-    check_in(to, file, memory, lent)?;
+    };
+    check_in(to, &space[..size], memory, lent)?;
     Ok(true)
 }
 

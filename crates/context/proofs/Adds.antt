@@ -8,15 +8,16 @@ use native.Mathlib.Nat.{add-zero}
 use native.Mathlib.Omega.{arith}
 use Prim.Native.Nat.{◌*◌, ◌+◌, ◌-◌, ◌<◌, suc, ℕ}
 use Rattle.context.proofs.Begins.{hold-begin, hold-end}
-use Rattle.context.proofs.Change.{fact-kind}
+use Rattle.context.proofs.Change.{fact-same}
 use Rattle.context.proofs.Growing.{hold-define, hold-field, hold-name, hold-tick, state}
 use Rattle.context.specs.Holds.{Holds, Linked}
 use Rattle.context.specs.Parts.{part}
 use Rattle.context.specs.Entries.{after_declaration, after_definitions, after_end, after_field, begun, counts, declaration_row, declaring, defining, entry_at, field_code, no_counts, own_row, path_of, variable_kind}
-use Rattle.store.specs.Store.{Store, context_slot, empty, kind_at, order_slot}
-use Rattle.store.specs.Updates.{grown, in_context, in_order, stored, with_contexts, with_declared, with_heads, with_orders, with_row}
+use Rattle.store.specs.Store.{context_slot, empty, kind_at, no_facts, order_slot}
+use Rattle.store.specs.declared.Store.{Store}
+use Rattle.store.specs.Updates.{grown, in_context, in_order, with_contexts, with_declared, with_heads, with_orders, with_row}
 use Rattle.limits.specs.Limits.{max_declarations, max_definitions, max_modules}
-use Rattle.limits.specs.Sizes.{code_count, context_length, contexts_length, facts_length, heads_length, max_fields, orders_length}
+use Rattle.limits.specs.Sizes.{code_count, context_length, contexts_length, heads_length, max_fields, orders_length}
 use Rattle.rules.specs.Add.{add, own_one, with_more}
 use Rattle.rules.specs.Expression.{Expression, expression}
 use Rattle.rules.specs.Field.{assume, begin_module, declare_constant, declare_variable, definition, end_module, theorem}
@@ -40,7 +41,7 @@ hold-start = record {
   known = λ m h. let q : m ≡ 0 = omega arith in rw q tt;
   sized = record {
     names = length-replicate {A = ℕ} code_count 0;
-    facts = length-replicate {A = ℕ} facts_length 0;
+    facts = length-replicate {A = Facts} code_count no_facts;
     contexts = length-replicate {A = ℕ} contexts_length 0;
     orders = length-replicate {A = ℕ} orders_length 0;
     heads = length-replicate {A = ℕ} heads_length 0;
@@ -93,8 +94,8 @@ module _ (v : Store) (c : Counts) (s : State) (holds : Holds v c s) (room : c.fi
 
   -- declarations
 
-  kind-there : (kind : ℕ) → kind_at (stored v.facts (field_code c.fields) (declaration_row kind c.declarations)) (field_code c.fields) ≡ kind
-  kind-there kind = fact-kind v.facts (field_code c.fields) (declaration_row kind c.declarations) (omega (arith, holds.sized.facts))
+  kind-there : (kind : ℕ) → kind_at (set v.facts (field_code c.fields) (declaration_row kind c.declarations)) (field_code c.fields) ≡ kind
+  kind-there kind = ap (λ (f : Facts). f.kind) (fact-same v.facts (field_code c.fields) (declaration_row kind c.declarations) (omega (arith, holds.sized.facts)))
 
   name-there : (name : ℕ) → get_or (set v.names (max_definitions + c.fields) name) (max_definitions + c.fields) 0 ≡ name
   name-there name = get_or-set_same v.names (max_definitions + c.fields) name 0 (omega (arith, holds.sized.names))

@@ -9,7 +9,8 @@ use Rattle.context.proofs.Change.{begun-codes, begun-no-codes, begun-other, begu
 use Rattle.context.proofs.Growing.{known_more, shown-within, state, up_to}
 use Rattle.context.specs.Holds.{Holds, Known, Sized}
 use Rattle.context.specs.Entries.{after_end, after_field, begun, codes_of, module_at}
-use Rattle.store.specs.Store.{Store, context_slot, order_slot}
+use Rattle.store.specs.Store.{context_slot, order_slot}
+use Rattle.store.specs.declared.Store.{Store}
 use Rattle.store.specs.Updates.{headed}
 use Rattle.limits.specs.Limits.{max_definitions, max_modules}
 use Rattle.limits.specs.Sizes.{max_fields}

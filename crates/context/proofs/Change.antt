@@ -9,10 +9,11 @@ use Rattle.context.proofs.Parts.{map_each, map_snoc, part-push, part-set}
 use Rattle.context.specs.Holds.{Linked}
 use Rattle.context.specs.Parts.{part}
 use Rattle.context.specs.Entries.{begun, codes_of, described_as, entry_at, module_at, order_of, path_of}
-use Rattle.store.specs.Store.{Store, context_slot, kind_at, link_at, order_slot, source_at}
-use Rattle.store.specs.Updates.{headed, in_context, in_order, stored, with_row}
+use Rattle.store.specs.Store.{context_slot, link_at, no_facts, order_slot, source_at}
+use Rattle.store.specs.declared.Store.{Store}
+use Rattle.store.specs.Updates.{headed, in_context, in_order, with_row}
 use Rattle.limits.specs.Limits.{max_definitions, max_modules}
-use Rattle.limits.specs.Sizes.{column_count, context_length, heads_length}
+use Rattle.limits.specs.Sizes.{context_length, heads_length}
 use Rattle.rules.specs.Add.{with_more}
 use Rattle.rules.specs.State.{Context, Module}
 use Rattle.theory.proofs.Lists.{map-all}
@@ -21,67 +22,12 @@ use Rattle.theory.specs.Lists.{All}
 use Rattle.store.specs.declared.Facts.{Facts}
 
 -- what a code is
-module _ (facts : List ℕ) (o : ℕ) (r : Facts) where
-  -- a place that is in no column of o
-  pub fact-other : (i : ℕ) → ((k : ℕ) → k < column_count → i ≡ column_count * o + k → ⊥) → get_or (stored facts o r) i 0 ≡ get_or facts i 0
-  unfolding stored
-  fact-other i out =
-      get_or-set_other (set (set (set (set (set facts (column_count * o) r.kind) (column_count * o + 1) r.first) (column_count * o + 2) r.count) (column_count * o + 3) r.via) (column_count * o + 4) r.source) (column_count * o + 5) i r.link 0 (λ (e : i ≡ column_count * o + 5). out 5 (omega arith) (omega arith))
-      ∙ get_or-set_other (set (set (set (set facts (column_count * o) r.kind) (column_count * o + 1) r.first) (column_count * o + 2) r.count) (column_count * o + 3) r.via) (column_count * o + 4) i r.source 0 (λ (e : i ≡ column_count * o + 4). out 4 (omega arith) (omega arith))
-      ∙ get_or-set_other (set (set (set facts (column_count * o) r.kind) (column_count * o + 1) r.first) (column_count * o + 2) r.count) (column_count * o + 3) i r.via 0 (λ (e : i ≡ column_count * o + 3). out 3 (omega arith) (omega arith))
-      ∙ get_or-set_other (set (set facts (column_count * o) r.kind) (column_count * o + 1) r.first) (column_count * o + 2) i r.count 0 (λ (e : i ≡ column_count * o + 2). out 2 (omega arith) (omega arith))
-      ∙ get_or-set_other (set facts (column_count * o) r.kind) (column_count * o + 1) i r.first 0 (λ (e : i ≡ column_count * o + 1). out 1 (omega arith) (omega arith))
-      ∙ get_or-set_other facts (column_count * o) i r.kind 0 (λ (e : i ≡ column_count * o). out 0 (omega arith) (omega arith))
+module _ (facts : List Facts) (o : ℕ) (r : Facts) where
+  pub fact-other : (p : ℕ) → (p ≡ o → ⊥) → get_or (set facts o r) p no_facts ≡ get_or facts p no_facts
+  fact-other p h = get_or-set_other facts o p r no_facts h
 
-  pub stored-length : length (stored facts o r) ≡ length facts
-  unfolding stored
-  stored-length = simp length-set
-
-  module _ (fits : column_count * o + 5 < length facts) where
-    pub fact-kind : get_or (stored facts o r) (column_count * o) 0 ≡ r.kind
-    unfolding stored
-    fact-kind =
-        get_or-set_other (set (set (set (set (set facts (column_count * o) r.kind) (column_count * o + 1) r.first) (column_count * o + 2) r.count) (column_count * o + 3) r.via) (column_count * o + 4) r.source) (column_count * o + 5) (column_count * o) r.link 0 (λ (e : column_count * o ≡ column_count * o + 5). omega arith)
-        ∙ get_or-set_other (set (set (set (set facts (column_count * o) r.kind) (column_count * o + 1) r.first) (column_count * o + 2) r.count) (column_count * o + 3) r.via) (column_count * o + 4) (column_count * o) r.source 0 (λ (e : column_count * o ≡ column_count * o + 4). omega arith)
-        ∙ get_or-set_other (set (set (set facts (column_count * o) r.kind) (column_count * o + 1) r.first) (column_count * o + 2) r.count) (column_count * o + 3) (column_count * o) r.via 0 (λ (e : column_count * o ≡ column_count * o + 3). omega arith)
-        ∙ get_or-set_other (set (set facts (column_count * o) r.kind) (column_count * o + 1) r.first) (column_count * o + 2) (column_count * o) r.count 0 (λ (e : column_count * o ≡ column_count * o + 2). omega arith)
-        ∙ get_or-set_other (set facts (column_count * o) r.kind) (column_count * o + 1) (column_count * o) r.first 0 (λ (e : column_count * o ≡ column_count * o + 1). omega arith)
-        ∙ get_or-set_same facts (column_count * o) r.kind 0 (omega arith)
-
-    pub fact-first : get_or (stored facts o r) (column_count * o + 1) 0 ≡ r.first
-    unfolding stored
-    fact-first =
-        get_or-set_other (set (set (set (set (set facts (column_count * o) r.kind) (column_count * o + 1) r.first) (column_count * o + 2) r.count) (column_count * o + 3) r.via) (column_count * o + 4) r.source) (column_count * o + 5) (column_count * o + 1) r.link 0 (λ (e : column_count * o + 1 ≡ column_count * o + 5). omega arith)
-        ∙ get_or-set_other (set (set (set (set facts (column_count * o) r.kind) (column_count * o + 1) r.first) (column_count * o + 2) r.count) (column_count * o + 3) r.via) (column_count * o + 4) (column_count * o + 1) r.source 0 (λ (e : column_count * o + 1 ≡ column_count * o + 4). omega arith)
-        ∙ get_or-set_other (set (set (set facts (column_count * o) r.kind) (column_count * o + 1) r.first) (column_count * o + 2) r.count) (column_count * o + 3) (column_count * o + 1) r.via 0 (λ (e : column_count * o + 1 ≡ column_count * o + 3). omega arith)
-        ∙ get_or-set_other (set (set facts (column_count * o) r.kind) (column_count * o + 1) r.first) (column_count * o + 2) (column_count * o + 1) r.count 0 (λ (e : column_count * o + 1 ≡ column_count * o + 2). omega arith)
-        ∙ get_or-set_same (set facts (column_count * o) r.kind) (column_count * o + 1) r.first 0 (simp length-set (omega arith))
-
-    pub fact-count : get_or (stored facts o r) (column_count * o + 2) 0 ≡ r.count
-    unfolding stored
-    fact-count =
-        get_or-set_other (set (set (set (set (set facts (column_count * o) r.kind) (column_count * o + 1) r.first) (column_count * o + 2) r.count) (column_count * o + 3) r.via) (column_count * o + 4) r.source) (column_count * o + 5) (column_count * o + 2) r.link 0 (λ (e : column_count * o + 2 ≡ column_count * o + 5). omega arith)
-        ∙ get_or-set_other (set (set (set (set facts (column_count * o) r.kind) (column_count * o + 1) r.first) (column_count * o + 2) r.count) (column_count * o + 3) r.via) (column_count * o + 4) (column_count * o + 2) r.source 0 (λ (e : column_count * o + 2 ≡ column_count * o + 4). omega arith)
-        ∙ get_or-set_other (set (set (set facts (column_count * o) r.kind) (column_count * o + 1) r.first) (column_count * o + 2) r.count) (column_count * o + 3) (column_count * o + 2) r.via 0 (λ (e : column_count * o + 2 ≡ column_count * o + 3). omega arith)
-        ∙ get_or-set_same (set (set facts (column_count * o) r.kind) (column_count * o + 1) r.first) (column_count * o + 2) r.count 0 (simp length-set (omega arith))
-
-    pub fact-via : get_or (stored facts o r) (column_count * o + 3) 0 ≡ r.via
-    unfolding stored
-    fact-via =
-        get_or-set_other (set (set (set (set (set facts (column_count * o) r.kind) (column_count * o + 1) r.first) (column_count * o + 2) r.count) (column_count * o + 3) r.via) (column_count * o + 4) r.source) (column_count * o + 5) (column_count * o + 3) r.link 0 (λ (e : column_count * o + 3 ≡ column_count * o + 5). omega arith)
-        ∙ get_or-set_other (set (set (set (set facts (column_count * o) r.kind) (column_count * o + 1) r.first) (column_count * o + 2) r.count) (column_count * o + 3) r.via) (column_count * o + 4) (column_count * o + 3) r.source 0 (λ (e : column_count * o + 3 ≡ column_count * o + 4). omega arith)
-        ∙ get_or-set_same (set (set (set facts (column_count * o) r.kind) (column_count * o + 1) r.first) (column_count * o + 2) r.count) (column_count * o + 3) r.via 0 (simp length-set (omega arith))
-
-    pub fact-source : get_or (stored facts o r) (column_count * o + 4) 0 ≡ r.source
-    unfolding stored
-    fact-source =
-        get_or-set_other (set (set (set (set (set facts (column_count * o) r.kind) (column_count * o + 1) r.first) (column_count * o + 2) r.count) (column_count * o + 3) r.via) (column_count * o + 4) r.source) (column_count * o + 5) (column_count * o + 4) r.link 0 (λ (e : column_count * o + 4 ≡ column_count * o + 5). omega arith)
-        ∙ get_or-set_same (set (set (set (set facts (column_count * o) r.kind) (column_count * o + 1) r.first) (column_count * o + 2) r.count) (column_count * o + 3) r.via) (column_count * o + 4) r.source 0 (simp length-set (omega arith))
-
-    pub fact-link : get_or (stored facts o r) (column_count * o + 5) 0 ≡ r.link
-    unfolding stored
-    fact-link =
-        get_or-set_same (set (set (set (set (set facts (column_count * o) r.kind) (column_count * o + 1) r.first) (column_count * o + 2) r.count) (column_count * o + 3) r.via) (column_count * o + 4) r.source) (column_count * o + 5) r.link 0 (simp length-set (omega arith))
+  pub fact-same : o < length facts → get_or (set facts o r) o no_facts ≡ r
+  fact-same h = get_or-set_same facts o r no_facts h
 
 abbrev pub made : ℕ → Context → List ℕ → Module
 made n Γ gs = record { name = n; context = Γ; definitions = gs }
@@ -91,44 +37,41 @@ made-same p q r = λ i. made (p i) (q i) (r i)
 
 -- a code that nothing mentions is given a meaning
 module _ (v : Store) (o name : ℕ) (r : Facts) where
-  apart : (p i : ℕ) → (p ≡ o → ⊥) → i < column_count → get_or (stored v.facts o r) (column_count * p + i) 0 ≡ get_or v.facts (column_count * p + i) 0
-  apart p i h l = fact-other v.facts o r (column_count * p + i) (λ (k : ℕ) (m : k < column_count) (e : column_count * p + i ≡ column_count * o + k). h (omega arith))
+  apart : (p : ℕ) → (p ≡ o → ⊥) → get_or (set v.facts o r) p no_facts ≡ get_or v.facts p no_facts
+  apart p h = fact-other v.facts o r p h
 
-  apart-kind : (p : ℕ) → (p ≡ o → ⊥) → kind_at (stored v.facts o r) p ≡ kind_at v.facts p
-  apart-kind p h = fact-other v.facts o r (column_count * p) (λ (k : ℕ) (m : k < column_count) (e : column_count * p ≡ column_count * o + k). h (omega arith))
-
-  pub entry_other : (p : ℕ) → (p ≡ o → ⊥) → entry_at (set v.names o name) (stored v.facts o r) p ≡ entry_at v.names v.facts p
+  pub entry_other : (p : ℕ) → (p ≡ o → ⊥) → entry_at (set v.names o name) (set v.facts o r) p ≡ entry_at v.names v.facts p
   unfolding entry_at
-  entry_other p h = rw (get_or-set_other v.names o p name 0 h, apart-kind p h, apart p 1 h (omega arith), apart p 2 h (omega arith))
+  entry_other p h = rw (get_or-set_other v.names o p name 0 h, ap (λ (f : Facts). f.kind) (apart p h), ap (λ (f : Facts). f.first) (apart p h), ap (λ (f : Facts). f.count) (apart p h))
 
   pub enter-module : (m : ℕ) → All (λ p. p ≡ o → ⊥) (codes_of v m) → module_at (with_row v o name r) m ≡ module_at v m
   enter-module m h = made-same refl (map_each _ _ (codes_of v m) (all-to (codes_of v m) h)) refl
     where
-      all-to : (l : List ℕ) → All (λ p. p ≡ o → ⊥) l → All (λ p. entry_at (set v.names o name) (stored v.facts o r) p ≡ entry_at v.names v.facts p) l
+      all-to : (l : List ℕ) → All (λ p. p ≡ o → ⊥) l → All (λ p. entry_at (set v.names o name) (set v.facts o r) p ≡ entry_at v.names v.facts p) l
       all-to l h = map-all _ _ (λ p. entry_other p) l h
 
   pub enter-definition : (g : ℕ) (d : Definition) → (g ≡ o → ⊥) → described_as (with_row v o name r) g d ≡ described_as v g d
   enter-definition g d h =
-      rw (get_or-set_other v.names o g name 0 h, apart-kind g h, apart g 1 h (omega arith), apart g 2 h (omega arith), apart g 3 h (omega arith))
+      rw (get_or-set_other v.names o g name 0 h, ap (λ (f : Facts). f.kind) (apart g h), ap (λ (f : Facts). f.first) (apart g h), ap (λ (f : Facts). f.count) (apart g h), ap (λ (f : Facts). f.via) (apart g h))
 
   pub enter-linked : (g : ℕ) (d : Definition) → (g ≡ o → ⊥) → Linked g d (source_at v.facts g) (link_at v.facts g)
-      → Linked g d (source_at (stored v.facts o r) g) (link_at (stored v.facts o r) g)
-  enter-linked g d h l = rw (apart g 4 h (omega arith), apart g 5 h (omega arith)) l
+      → Linked g d (source_at (set v.facts o r) g) (link_at (set v.facts o r) g)
+  enter-linked g d h l = rw (ap (λ (f : Facts). f.source) (apart g h), ap (λ (f : Facts). f.link) (apart g h)) l
 
-  pub enter-new : (d : Definition) → o < length v.names → column_count * o + 5 < length v.facts
+  pub enter-new : (d : Definition) → o < length v.names → o < length v.facts
       → described_as (with_row v o name r) o d ≡ record { path = path_of r.via; name = name; params = r.kind; body_start = r.first; body_length = r.count; meaning = d }
   enter-new d h l =
       rw (
         get_or-set_same v.names o name 0 h,
-        fact-kind v.facts o r l,
-        fact-first v.facts o r l,
-        fact-count v.facts o r l,
-        fact-via v.facts o r l,
+        ap (λ (f : Facts). f.kind) (fact-same v.facts o r l),
+        ap (λ (f : Facts). f.first) (fact-same v.facts o r l),
+        ap (λ (f : Facts). f.count) (fact-same v.facts o r l),
+        ap (λ (f : Facts). f.via) (fact-same v.facts o r l),
       )
 
-  pub enter-new-linked : (d : Definition) → column_count * o + 5 < length v.facts → Linked o d r.source r.link
-      → Linked o d (source_at (stored v.facts o r) o) (link_at (stored v.facts o r) o)
-  enter-new-linked d l k = rw (fact-source v.facts o r l, fact-link v.facts o r l) k
+  pub enter-new-linked : (d : Definition) → o < length v.facts → Linked o d r.source r.link
+      → Linked o d (source_at (set v.facts o r) o) (link_at (set v.facts o r) o)
+  enter-new-linked d l k = rw (ap (λ (f : Facts). f.source) (fact-same v.facts o r l), ap (λ (f : Facts). f.link) (fact-same v.facts o r l)) k
 
 -- a code comes after the context of module k
 module _ (v : Store) (k o : ℕ) (few : k ≤ max_modules) where

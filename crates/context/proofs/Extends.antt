@@ -23,7 +23,9 @@ use Rattle.context.specs.Lookup.{code_named, repeated_in}
 use Rattle.context.specs.Parts.{part, place_of}
 use Rattle.context.specs.Entries.{after_field, codes_of, entry_at, module_at, order_of, variable_kind}
 use Rattle.store.specs.Updates.{with_contexts, with_heads, with_orders}
-use Rattle.store.specs.Store.{Store, context_slot, count_at, first_at, kind_at, order_slot}
+use Rattle.store.specs.Store.{context_slot, count_at, first_at, kind_at, order_slot}
+use Rattle.store.specs.declared.Store.{Store}
+use Rattle.store.specs.declared.Facts.{Facts}
 use Rattle.limits.specs.Limits.{max_definitions, max_modules}
 use Rattle.limits.specs.Sizes.{context_length, max_fields}
 use Rattle.rules.specs.Add.{add, extended_definitions, extended_module}
@@ -39,7 +41,7 @@ use Rattle.context.specs.declared.Counts.{Counts}
 abbrev origin_at : ℕ → Origin
 origin_at o = cond (ltb o max_definitions) (definition_origin o) (field_origin (o - max_definitions))
 
-module _ (names facts : List ℕ) where
+module _ (names : List ℕ) (facts : List Facts) where
   abbrev e : ℕ → Entry
   e = entry_at names facts
 

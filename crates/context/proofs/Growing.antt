@@ -7,21 +7,19 @@ use lib.Seq.{get_or_at, get_or-set_other, get_or-set_same}
 use native.Mathlib.Decide.{dec_lt}
 use native.Mathlib.Omega.{arith}
 use Prim.Native.Nat.{◌*◌, ◌+◌, ◌<◌, ◌≤◌, suc, ℕ}
-use Rattle.context.proofs.Change.{enter-definition, enter-linked, enter-module, enter-new, enter-new-linked, order-codes, order_other, order_same, push-codes-other, push-codes-same, push-other, push-same, stored-length}
+use Rattle.context.proofs.Change.{enter-definition, enter-linked, enter-module, enter-new, enter-new-linked, order-codes, order_other, order_same, push-codes-other, push-codes-same, push-other, push-same}
 use Rattle.context.specs.Holds.{Holds, Known, Linked, Sized, module_no}
 use Rattle.context.specs.Entries.{codes_of, counts, described_as, entry_at, field_code, module_at, path_of}
-use Rattle.store.specs.Store.{Store, context_slot, link_at, order_slot, source_at}
-use Rattle.store.specs.Updates.{in_context, in_order, stored, with_row}
+use Rattle.store.specs.Store.{context_slot, link_at, order_slot, source_at}
+use Rattle.store.specs.declared.Store.{Store}
+use Rattle.store.specs.Updates.{in_context, in_order, with_row}
 use Rattle.limits.specs.Limits.{max_definitions}
 use Rattle.limits.specs.Sizes.{context_length, contexts_length, max_fields, orders_length}
 use Rattle.rules.specs.Add.{with_more}
-use Rattle.rules.specs.Expression.{code}
 use Rattle.rules.specs.State.{Added, Entry, Module, Phase, State, defines, definition_at, no_definition, no_module}
-use Rattle.theory.proofs.Bytes.{bytes}
 use Rattle.theory.proofs.Lists.{append-all, map-all}
 use Rattle.theory.specs.Expand.{Definition}
 use Rattle.theory.specs.Lists.{All}
-use Rattle.theory.specs.Term.{defined}
 use Rattle.context.specs.declared.Counts.{Counts}
 use Rattle.store.specs.declared.Facts.{Facts}
 
@@ -123,7 +121,7 @@ module _ (v : Store) (c : Counts) (s : State) (holds : Holds v c s) where
     space : c.modules * context_length + get_or v.heads (context_slot c.modules) 0 < contexts_length
     space = let within = fits.context_room c.modules (omega arith) in omega (arith, fits.definitions, fits.modules)
 
-    pub hold-field : (e : Entry) (b n : ℕ) (p : Phase) → entry_at (set v.names o name) (stored v.facts o r) o ≡ e
+    pub hold-field : (e : Entry) (b n : ℕ) (p : Phase) → entry_at (set v.names o name) (set v.facts o r) o ≡ e
         → Holds with_field (counts (c.fields + 1) (c.declarations + n) c.modules c.definitions)
         (state (suc s.fields) b (s.declarations + n) p s.ended (with_more s.current (e ∷ []) []) s.definitions)
     hold-field e b n p q = record {
@@ -144,7 +142,7 @@ module _ (v : Store) (c : Counts) (s : State) (holds : Holds v c s) where
           (record { below = omega arith; defined = λ (x : o < max_definitions). omega arith }, tt)));
       sized = record {
         names = length-set v.names o name ∙ fits.names;
-        facts = stored-length v.facts o r ∙ fits.facts;
+        facts = length-set v.facts o r ∙ fits.facts;
         contexts = length-set v.contexts (c.modules * context_length + get_or v.heads (context_slot c.modules) 0) o ∙ fits.contexts;
         orders = fits.orders;
         heads = length-set v.heads (context_slot c.modules) (get_or v.heads (context_slot c.modules) 0 + 1) ∙ fits.heads;
@@ -179,7 +177,7 @@ module _ (v : Store) (c : Counts) (s : State) (holds : Holds v c s) where
       known = λ m h. known_more c.fields c.definitions (c.fields + 1) c.definitions (omega arith) (omega arith) (codes_of v m) (holds.known m h);
       sized = record {
         names = length-set v.names o name ∙ fits.names;
-        facts = stored-length v.facts o r ∙ fits.facts;
+        facts = length-set v.facts o r ∙ fits.facts;
         contexts = fits.contexts;
         orders = fits.orders;
         heads = fits.heads;
@@ -228,7 +226,7 @@ module _ (v : Store) (c : Counts) (s : State) (holds : Holds v c s) where
           (known_more c.fields g c.fields (g + 1) (omega arith) (omega arith) (codes_of v m) (holds.known m h));
       sized = record {
         names = length-set v.names g name ∙ fits.names;
-        facts = stored-length v.facts g r ∙ fits.facts;
+        facts = length-set v.facts g r ∙ fits.facts;
         contexts = fits.contexts;
         orders = length-set v.orders (c.modules * max_definitions + get_or v.heads (order_slot c.modules) 0) g ∙ fits.orders;
         heads = length-set v.heads (order_slot c.modules) (get_or v.heads (order_slot c.modules) 0 + 1) ∙ fits.heads;

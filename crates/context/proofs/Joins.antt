@@ -4,34 +4,21 @@ use mathlib.Core.Bool.{Bool, cond, false, not, true}
 use mathlib.Core.List.{List, [], ◌++◌, ◌∷◌}
 use mathlib.Core.Path.{◌∙◌, ◌≡◌, ap, ap₂, refl, subst, sym}
 use lib.Dec.{eqb}
-use lib.ListN.{get_or, length, length-set, replicate, replicate-append-replicate, set, take}
-use lib.Seq.{get_or-set_other, take_all, take-suc-set}
-use native.Mathlib.Numerals.{add-one}
+use lib.ListN.{get_or, length, length-set, set}
+use lib.Seq.{get_or-set_other}
 use native.Mathlib.Omega.{arith}
 use Prim.Native.Nat.{◌*◌, ◌+◌, ◌-◌, ◌<◌, ◌≤◌, ℕ}
 use Rattle.limits.specs.Limits.{max_definitions}
 use Rattle.limits.specs.Sizes.{context_length, contexts_length, orders_length}
 use Rattle.theory.specs.Lists.{All, any, union}
-use Rattle.store.specs.Store.{Store, context_slot, order_slot}
+use Rattle.store.specs.Store.{context_slot, order_slot}
+use Rattle.store.specs.declared.Store.{Store}
 use Rattle.store.specs.Updates.{with_contexts, with_heads, with_orders}
 use Rattle.context.proofs.Marks.{below-refl, below_set, below-trans, marked-push, marked-room, part-below}
 use Rattle.context.proofs.Parts.{part_end, part_length, part-push, part-turn}
 use Rattle.context.specs.Entries.{codes_of, order_of}
 use Rattle.context.specs.Joining.{Below, ContextJoined, ContextReady, Extendable, Extended, JoinedAt, Marked, OrderJoined, OrderReady, Small, joined}
 use Rattle.context.specs.Parts.{part}
-
--- clear
-
-pub clear-turn : (marks : List ℕ) (i : ℕ) → take i marks ≡ replicate i 0 → i < length marks → take (i + 1) (set marks i 0) ≡ replicate (i + 1) 0
-clear-turn marks i e h =
-    ap (λ (k : ℕ). take k (set marks i 0)) (add-one i) ∙ take-suc-set marks i 0 h ∙ ap (λ (l : List ℕ). l ++ (0 ∷ [])) e
-    ∙ replicate-append-replicate {A = ℕ} i 1 0
-
-pub clear-done : (marks before : List ℕ) (i : ℕ) → take i marks ≡ replicate i 0 → length marks ≡ length before → i ≤ length before → length marks ≤ i
-    → marks ≡ replicate (length before) 0
-clear-done marks before i e l k h =
-    let q : i ≡ length before = omega arith in
-    sym (take_all i marks h) ∙ e ∙ ap (λ (n : ℕ). replicate n 0) q
 
 -- join
 

@@ -13,16 +13,19 @@ use Rattle.context.proofs.Lookups.{cond_cases, current-no, entry_named, entry_of
 use Rattle.context.specs.Holds.{Holds, module_no}
 use Rattle.context.specs.Lookup.{as_code, code_named, declared_named, declares_name, defines_name_in, definition_among, instance_among, is_declared, is_instance, operator_at, operator_in, repeated_in}
 use Rattle.context.specs.Entries.{codes_of, entry_at, instance_kind, variable_kind}
-use Rattle.store.specs.Store.{Store, count_at, first_at, kind_at}
+use Rattle.store.specs.Store.{count_at, first_at, kind_at}
+use Rattle.store.specs.declared.Store.{Store}
+use Rattle.store.specs.declared.Facts.{Facts}
 use Rattle.limits.specs.Limits.{max_definitions}
-use Rattle.rules.specs.Instance.{arity_in, declared_in, declared_of, is_constant, is_variable, kind_in}
+use Rattle.rules.specs.Instance.{arity_in, declared_in, declared_of, kind_in}
 use Rattle.rules.specs.Judge.{defined_name, has_named_instance, instance_clashes}
 use Rattle.rules.specs.State.{Context, Entry, Module, State, declares, defines, here, in_context, instance_of, instances, same_name}
 use Rattle.theory.proofs.Lists.{find-has, never}
 use Rattle.theory.specs.Lists.{All, ◌∷?◌, any, bind_option, collect, find, is_some, map_option, numbers_from, or_else, repeats}
-use Rattle.theory.specs.Term.{Kind, constant, defined, kind_arity, variable}
+use Rattle.theory.specs.Term.{Kind, constant, kind_arity, variable}
+use Rattle.std.specs.Prelude.{Option as Answer, Some, None}
 use Rattle.context.specs.declared.Operator.{Operator}
-use Rattle.context.specs.declared.Operator.TheVariants.{Constant, Variable, Defined, Unknown}
+use Rattle.context.specs.declared.Operator.TheVariants.{Constant, Variable, Defined}
 use Rattle.context.specs.declared.Counts.{Counts}
 
 -- laws of `map` over a list
@@ -83,17 +86,17 @@ find-each t u e (x ∷ xs) = ap₂ (λ (b : Bool) (r : Option _). cond b (some x
 abbrev pub kind_of : ℕ → Kind
 kind_of k = cond (eqb k variable_kind) variable (constant k)
 
-abbrev pub declaration_at : List ℕ → List ℕ → ℕ → Option (Kind × ℕ)
+abbrev pub declaration_at : List ℕ → List Facts → ℕ → Option (Kind × ℕ)
 declaration_at names facts o = cond (is_declared facts o) (some (kind_of (kind_at facts o), get_or names o 0)) none
 
 -- the kind that an answer of find_declared says
-abbrev pub kind_answered : Operator → Option Kind
-kind_answered (Constant o k) = some (constant k)
-kind_answered (Variable o) = some variable
-kind_answered (Defined g) = none
-kind_answered Unknown = none
+abbrev pub kind_answered : Answer Operator → Option Kind
+kind_answered (Some (Constant o k)) = some (constant k)
+kind_answered (Some (Variable o)) = some variable
+kind_answered (Some (Defined g)) = none
+kind_answered None = none
 
-module _ (names facts : List ℕ) where
+module _ (names : List ℕ) (facts : List Facts) where
   -- the four ways that a code is read: a definition, a constant, a variable, an instance
   module _ {X : Type 0} (o : ℕ) (on_entry : Entry → X) (on_code : X)
       (defined : o < max_definitions → on_entry (defines (get_or names o 0) o) ≡ on_code)
@@ -164,7 +167,7 @@ module _ (names facts : List ℕ) where
           parts false b q = never (sym q)
 
       go : (a : Bool) → ltb o max_definitions ≡ a → (b : Bool) → ltb (kind_at facts o) variable_kind ≡ b → (c : Bool) → eqb (kind_at facts o) variable_kind ≡ c
-          → some (cond c variable (constant (kind_at facts o))) ≡ kind_answered (cond a (Defined o) (cond b (Constant o (kind_at facts o)) (cond c (Variable o) Unknown)))
+          → some (cond c variable (constant (kind_at facts o))) ≡ kind_answered (cond a (Some (Defined o)) (cond b (Some (Constant o (kind_at facts o))) (cond c (Some (Variable o)) None)))
       go true p b q c r = absurd (omega (arith, ltb-true o max_definitions p, leb-true max_definitions o both.0))
       go false p true q true r = absurd (omega (arith, ltb-true (kind_at facts o) variable_kind q, eqb-true (kind_at facts o) variable_kind r))
       go false p true q false r = refl

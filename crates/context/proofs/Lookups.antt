@@ -1,6 +1,6 @@
 -- What a lookup answers is what the rules find.
 use borrow.Author.Tests.{eqb-false, eqb-true, le-ltb, lt-ltb, ltb-false, ltb-true}
-use mathlib.Core.Bool.{Bool, ◌&&◌, and-true, cond, false, true}
+use mathlib.Core.Bool.{Bool, ◌&&◌, cond, false, true}
 use mathlib.Core.List.{List, [], ◌++◌, ◌∷◌, map}
 use mathlib.Core.Option.{Option, none, some}
 use mathlib.Core.Path.{◌∙◌, ◌≡◌, ap, ap₂, refl, subst, sym}
@@ -11,22 +11,20 @@ use native.Mathlib.Nat.{zero-add}
 use native.Mathlib.Omega.{arith}
 use Prim.Native.Nat.{◌+◌, ◌-◌, ◌<◌, ◌≤◌, suc, zero, ℕ}
 use Rattle.context.specs.Holds.{Holds, module_no}
-use Rattle.context.specs.Lookup.{as_code, brought_at, brought_in, code_named, code_under, operator_at, operator_in, stands_under}
+use Rattle.context.specs.Lookup.{as_code, bringing, brought_at, brought_in, code_named, code_under, operator_at, operator_in, stands_under}
 use Rattle.context.specs.Parts.{part, place_of}
 use Rattle.context.specs.Entries.{codes_of, entry_at, instance_kind, path_of, variable_kind}
-use Rattle.store.specs.Store.{Store, kind_at, via_at}
+use Rattle.store.specs.Store.{kind_at, via_at}
+use Rattle.store.specs.declared.Store.{Store}
+use Rattle.store.specs.declared.Facts.{Facts}
 use Rattle.limits.specs.Limits.{max_definitions}
-use Rattle.laws.specs.Lawful.{holds}
 use Rattle.rules.specs.State.{Added, Context, Entry, Module, State, declares, defines, definition_at, definition_named, entry_of_name, instance_of, instances, module_named, name_of, no_module, operator_named, operator_of}
-use Rattle.theory.proofs.Form.{at}
 use Rattle.theory.specs.Lists.{All, bind_option, find, numbers_from, same_numbers}
 use Rattle.theory.specs.Term.{Head, constant, declared, defined, variable}
-use Rattle.context.specs.declared.Code.{Code}
-use Rattle.context.specs.declared.Code.TheVariants.{At, Absent}
+use Rattle.std.specs.Prelude.{Option as Answer, Some, None}
 use Rattle.context.specs.declared.Operator.{Operator}
-use Rattle.context.specs.declared.Operator.TheVariants.{Constant, Variable, Defined, Unknown}
+use Rattle.context.specs.declared.Operator.TheVariants.{Constant, Variable, Defined}
 use Rattle.context.specs.declared.Brought.{Brought}
-use Rattle.context.specs.declared.Brought.TheVariants.{Brings, Nothing}
 use Rattle.context.specs.declared.Counts.{Counts}
 
 pub cond_cases : {A : Type 0} (P : A → Type 0) (b : Bool) {x y : A} → (b ≡ true → P x) → (b ≡ false → P y) → P (cond b x y)
@@ -34,24 +32,24 @@ cond_cases P true f g = f refl
 cond_cases P false f g = g refl
 
 -- what an answer means
-abbrev pub means : ℕ → Operator → Option Head
-means n (Constant o k) = some (declared (constant k) n)
-means n (Variable o) = some (declared variable n)
-means n (Defined g) = some (defined g)
-means n Unknown = none
+abbrev pub means : ℕ → Answer Operator → Option Head
+means n (Some (Constant o k)) = some (declared (constant k) n)
+means n (Some (Variable o)) = some (declared variable n)
+means n (Some (Defined g)) = some (defined g)
+means n None = none
 
-abbrev pub brings : Brought → Option (List ℕ)
-brings (Brings a b) = some (numbers_from a b)
-brings Nothing = none
+abbrev pub brings : Answer Brought → Option (List ℕ)
+brings (Some b) = some (numbers_from b.first b.count)
+brings None = none
 
-abbrev pub code_of : Code → Option ℕ
-code_of (At o) = some o
-code_of Absent = none
+abbrev pub code_of : Answer ℕ → Option ℕ
+code_of (Some o) = some o
+code_of None = none
 
 abbrev Named : ℕ → Entry → Type 0
 Named n e = name_of e ≡ n
 
-module _ (names facts : List ℕ) where
+module _ (names : List ℕ) (facts : List Facts) where
   pub name-at : (o : ℕ) → name_of (entry_at names facts o) ≡ get_or names o 0
   unfolding entry_at
   name-at o =
@@ -84,7 +82,7 @@ module _ (names facts : List ℕ) where
       go false p q below = below q
 
   operator-cases : (n o k f : ℕ) (gs : List ℕ) (a b c : Bool)
-      → means n (cond a (Defined o) (cond b (Constant o k) (cond c (Variable o) Unknown)))
+      → means n (cond a (Some (Defined o)) (cond b (Some (Constant o k)) (cond c (Some (Variable o)) None)))
       ≡ operator_of (cond a (defines n o) (cond b (declares n (constant k) f) (cond c (declares n variable f) (instances n f gs))))
   operator-cases n o k f gs true b c = refl
   operator-cases n o k f gs false true c = refl
@@ -106,13 +104,13 @@ module _ (names facts : List ℕ) where
       go (some o) e = operator-means n o (code-name n o cs e)
 
   brought-cases : (n o k a b f : ℕ) (p : Bool)
-      → brings (cond p Nothing (cond (ltb k instance_kind) Nothing (Brings a b)))
+      → brings (cond p None (cond (ltb k instance_kind) None (Some (bringing a b))))
       ≡ instance_of (cond p (defines n o) (cond (ltb k variable_kind) (declares n (constant k) f) (cond (eqb k variable_kind) (declares n variable f) (instances n f (numbers_from a b)))))
   brought-cases n o k a b f true = refl
   brought-cases n o k a b f false = go (ltb k variable_kind) refl (eqb k variable_kind) refl
     where
       go : (x : Bool) → ltb k variable_kind ≡ x → (y : Bool) → eqb k variable_kind ≡ y
-          → brings (cond (ltb k instance_kind) Nothing (Brings a b)) ≡ instance_of (cond x (declares n (constant k) f) (cond y (declares n variable f) (instances n f (numbers_from a b))))
+          → brings (cond (ltb k instance_kind) None (Some (bringing a b))) ≡ instance_of (cond x (declares n (constant k) f) (cond y (declares n variable f) (instances n f (numbers_from a b))))
       go true p y q = let h : k < variable_kind = ltb-true k variable_kind p in rw (lt-ltb k instance_kind (omega arith))
       go false p true q = let h : k ≡ variable_kind = eqb-true k variable_kind q in rw (lt-ltb k instance_kind (omega arith))
       go false p false q =

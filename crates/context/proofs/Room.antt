@@ -6,7 +6,8 @@ use Prim.Native.Nat.{◌*◌, ◌+◌, ◌<◌, ◌≤◌, ℕ}
 use Rattle.context.proofs.Parts.{part_length}
 use Rattle.context.specs.Holds.{Holds, module_no}
 use Rattle.context.specs.Entries.{order_of}
-use Rattle.store.specs.Store.{Store, context_slot, kind_at, order_slot}
+use Rattle.store.specs.Store.{context_slot, kind_at, order_slot}
+use Rattle.store.specs.declared.Store.{Store}
 use Rattle.limits.specs.Limits.{max_definitions}
 use Rattle.limits.specs.Sizes.{context_length, max_fields}
 use Rattle.rules.specs.State.{Added, Module, State, params_of}

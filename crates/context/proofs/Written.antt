@@ -4,7 +4,7 @@ use lib.ListN.{get_or, set}
 use Prim.Native.Nat.{◌<◌, ℕ}
 use Rattle.context.specs.Entries.{declaration_row, declaring, defining, field_code}
 use Rattle.context.specs.declared.Counts.{Counts}
-use Rattle.store.specs.Store.{Store}
+use Rattle.store.specs.declared.Store.{Store}
 use Rattle.store.specs.Updates.{in_both, in_context, with_declared, with_row}
 use Rattle.store.specs.declared.Facts.{Facts}
 

@@ -6,7 +6,8 @@ use Rattle.theory.specs.Expand.{Definition}
 use Rattle.theory.specs.Lists.{numbers_from}
 use Rattle.theory.specs.Term.{constant, variable}
 use Rattle.rules.specs.State.{Added, Entry, Module, declares, defines, instances}
-use Rattle.store.specs.Store.{Store, context_slot, count_at, first_at, kind_at, order_slot, row, via_at}
+use Rattle.store.specs.Store.{context_slot, count_at, first_at, kind_at, order_slot, row, via_at}
+use Rattle.store.specs.declared.Store.{Store}
 use Rattle.store.specs.Updates.{headed, in_both, in_context, with_declared, with_heads, with_row}
 use Rattle.store.specs.declared.Facts.{Facts}
 use Rattle.context.specs.Parts.{part}
@@ -28,7 +29,7 @@ variable_kind = 256
 abbrev pub instance_kind : ℕ
 instance_kind = 257
 
-unfoldable pub entry_at : List ℕ → List ℕ → ℕ → Entry
+unfoldable pub entry_at : List ℕ → List Facts → ℕ → Entry
 entry_at names facts o =
     cond (ltb o max_definitions) (defines (get_or names o 0) o)
     (cond (ltb (kind_at facts o) variable_kind) (declares (get_or names o 0) (constant (kind_at facts o)) (o - max_definitions))

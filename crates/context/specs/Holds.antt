@@ -1,12 +1,13 @@
 -- The store and the counts show a state of the rules.
-use Rattle.std.specs.Prelude.{List, [], ◌∷◌, ◌++◌, ◌≡◌, ℕ, ◌+◌, ◌≤◌, ◌<◌, get_or, length}
+use Rattle.std.specs.Prelude.{[], ◌∷◌, ◌++◌, ◌≡◌, ℕ, ◌+◌, ◌≤◌, ◌<◌, get_or, length}
 use Rattle.limits.specs.Limits.{max_declarations, max_definitions, max_modules}
-use Rattle.limits.specs.Sizes.{code_count, contexts_length, facts_length, heads_length, max_fields, orders_length}
+use Rattle.limits.specs.Sizes.{code_count, contexts_length, heads_length, max_fields, orders_length}
 use Rattle.theory.specs.Expand.{Definition, brought, own}
 use Rattle.theory.specs.Lists.{All}
 use Rattle.rules.specs.State.{Module, State, definition_at, no_module}
 use Rattle.context.specs.Entries.{codes_of, described_as, module_at}
-use Rattle.store.specs.Store.{Store, context_slot, link_at, order_slot, source_at}
+use Rattle.store.specs.Store.{context_slot, link_at, order_slot, source_at}
+use Rattle.store.specs.declared.Store.{Store}
 use Rattle.context.specs.declared.Counts.{Counts}
 
 -- the modules by number: those ended, and then the one that is open
@@ -26,7 +27,7 @@ pub record Known (fields definitions o : ℕ) : Type 0 where
 -- the regions have their sizes, the counts are within the limits, and every list is within its room
 pub record Sized (v : Store) (c : Counts) : Type 0 where
   pub names : length v.names ≡ code_count
-  pub facts : length v.facts ≡ facts_length
+  pub facts : length v.facts ≡ code_count
   pub contexts : length v.contexts ≡ contexts_length
   pub orders : length v.orders ≡ orders_length
   pub heads : length v.heads ≡ heads_length

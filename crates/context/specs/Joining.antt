@@ -6,7 +6,8 @@ use Rattle.theory.specs.Lists.{All, any, union}
 use Rattle.rules.specs.State.{Module, same_origin}
 use Rattle.context.specs.Parts.{part}
 use Rattle.context.specs.Entries.{codes_of, order_of}
-use Rattle.store.specs.Store.{Store, context_slot, order_slot}
+use Rattle.store.specs.Store.{context_slot, order_slot}
+use Rattle.store.specs.declared.Store.{Store}
 use Rattle.store.specs.Updates.{with_contexts, with_heads, with_orders}
 
 -- how many marks are not set

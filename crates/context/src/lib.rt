@@ -10,30 +10,22 @@ pub mod lookup;
 ghost use Rattle.std.specs.Prelude.{◌≡◌, ◌<◌, ◌^◌};
 ghost use Rattle.context.specs.Entries.{no_counts, after_field};
 
-// A code found, or none.
-#[derive(Clone, Copy)]
-pub enum Code {
-    At(u16),
-    Absent,
-}
-
 // What a name is as an operator: a constant's code and argument count, a variable's code, a definition's number.
 #[derive(Clone, Copy)]
 pub enum Operator {
     Constant(u16, u16),
     Variable(u16),
     Defined(u16),
-    Unknown,
 }
 
-// What a name is as an instance: the number of the first definition brought, and how many.
+// What an instance brought: the number of the first definition, and how many.
 #[derive(Clone, Copy)]
-pub enum Brought {
-    Brings(u16, u16),
-    Nothing,
+pub struct Brought {
+    pub first: u16,
+    pub count: u16,
 }
 
-// Kinds above every argument count.
+// Kinds above every argument count. Numbers: one word of the store is a CONSTANT's argument count or says what else a code is.
 #[derive(Drop)]
 pub struct Kinds;
 

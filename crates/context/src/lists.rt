@@ -1,14 +1,11 @@
 // Lists in regions of the store: searching.
-ghost use Rattle.std.specs.Prelude.{◌≡◌, ◌+◌, ◌-◌, ◌≤◌, get_or};
-ghost use Rattle.theory.specs.Lists.{numbers_from};
+ghost use Rattle.std.specs.Prelude.{◌≡◌, Bool, ℕ, ◌+◌, ◌-◌, ◌≤◌, get_or};
+ghost use Rattle.theory.specs.Lists.{find, numbers_from};
 ghost use Rattle.context.specs.Parts.{part, place_of};
-ghost use Rattle.context.specs.Lookup.{as_code, code_named, code_under, stands_under};
-ghost use Rattle.store.specs.Store.{held};
+ghost use Rattle.context.specs.Lookup.{Tests, as_code, code_named, code_under, stands_under};
 
-use crate::Code;
 use limits::Limits;
 use store::Store;
-use store::reading::{context_at, fact_at, head_at, name_at};
 
 // The number of a slice at i, 0 past the end.
 pub fn number_at(xs: &[u16], i: usize) -> u16
@@ -17,63 +14,64 @@ pub fn number_at(xs: &[u16], i: usize) -> u16
     if i < xs.len() { xs[i] } else { 0 }
 }
 
-// The first code from place from to place end whose name is the one given.
-pub fn find_code(store: &[u16; Store::LENGTH], from: usize, end: usize, name: u16) -> Code
-    ensures { result ≡ as_code (code_named (held store.now).names name (part (held store.now).contexts from (end - from))) }
+// The first code from place from to place end that passes the test.
+pub fn find_where<F: Fn(u16) -> bool>(
+    store: &Store,
+    from: usize,
+    end: usize,
+    test: F,
+) -> Option<u16>
+    requires { F.IsAlwaysCallable test }
+    ensures { (t : ℕ → Bool) → Tests (F.post test) t → result ≡ as_code (find t (part store.now.contexts from (end - from))) }
 {
-    let mut i = from;
-    while i < end {
-        let o = context_at(store, i);
-        if name == name_at(store, o as usize) {
-            return Code::At(o);
+    for i in from..end {
+        let o = store.context_at(i);
+        if test(o) {
+            return Some(o);
         }
-        i += 1;
     }
-    Code::Absent
+    None
+}
+
+// The first code from place from to place end whose name is the one given.
+pub fn find_code(store: &Store, from: usize, end: usize, name: u16) -> Option<u16>
+    ensures { result ≡ as_code (code_named store.now.names name (part store.now.contexts from (end - from))) }
+{
+    find_where(store, from, end, |o| name == store.name_at(o as usize))
 }
 
 // Whether definition g stands under the instance given and has the name given.
-pub fn stands_under(store: &[u16; Store::LENGTH], g: u16, instance: u16, name: u16) -> bool
-    ensures { result ≡ stands_under (held store.now).names (held store.now).facts «instance» name g }
+pub fn stands_under(store: &Store, g: u16, instance: u16, name: u16) -> bool
+    ensures { result ≡ stands_under store.now.names store.now.facts «instance» name g }
 {
     let o = g as usize;
-    if instance == fact_at(store, Limits::COLUMNS * o + 3) {
-        return name == name_at(store, o);
+    if instance == store.via_at(o) {
+        return name == store.name_at(o);
     }
     false
 }
 
 // The first definition from number from to end that stands under the instance given and has the name given.
-pub fn find_under(
-    store: &[u16; Store::LENGTH],
-    from: u16,
-    end: u16,
-    instance: u16,
-    name: u16,
-) -> Code
-    ensures { result ≡ as_code (code_under (held store.now).names (held store.now).facts «instance» name (numbers_from from (end - from))) }
+pub fn find_under(store: &Store, from: u16, end: u16, instance: u16, name: u16) -> Option<u16>
+    ensures { result ≡ as_code (code_under store.now.names store.now.facts «instance» name (numbers_from from (end - from))) }
 {
-    let mut i = from;
-    while i < end {
+    for i in from..end {
         if stands_under(store, i, instance, name) {
-            return Code::At(i);
+            return Some(i);
         }
-        i += 1;
     }
-    Code::Absent
+    None
 }
 
 // The first of the heads from place from to place end that is x, or end.
-pub fn place_of(store: &[u16; Store::LENGTH], from: usize, end: usize, x: u16) -> usize
+pub fn place_of(store: &Store, from: usize, end: usize, x: u16) -> usize
     requires { from ≤ end }
-    ensures { result ≡ from + place_of x (part (held store.now).heads from (end - from)) }
+    ensures { result ≡ from + place_of x (part store.now.heads from (end - from)) }
 {
-    let mut i = from;
-    while i < end {
-        if x == head_at(store, i) {
+    for i in from..end {
+        if x == store.head_at(i) {
             return i;
         }
-        i += 1;
     }
-    i
+    end
 }

@@ -2,7 +2,6 @@
 use borrow.Author.Tests.{eqb-true}
 use mathlib.Core.Bool.{Bool, cond, false, true}
 use mathlib.Core.List.{List, [], ◌++◌, ◌∷◌}
-use mathlib.Core.Option.{none}
 use mathlib.Core.Path.{◌∙◌, ◌≡◌, ap, refl, subst, sym}
 use Prim.Native.Nat.{ℕ, ◌+◌, ◌<◌}
 use native.Mathlib.Omega.{arith}
@@ -19,7 +18,8 @@ use Rattle.worlds.specs.Rows.{Row, rows_after}
 use Rattle.fields.specs.declared.Parts.{Parts}
 use Rattle.fields.specs.declared.Parts.TheVariants.{Constant, Variable}
 use Rattle.context.specs.Entries.{after_declaration, declaring, variable_kind}
-use Rattle.store.specs.Store.{Store, context_slot}
+use Rattle.store.specs.Store.{context_slot}
+use Rattle.store.specs.declared.Store.{Store}
 use Rattle.context.specs.declared.Counts.{Counts}
 use Rattle.entering.specs.Itself.{Put, itself_level}
 use Rattle.entering.proofs.Outset.{kind_number}

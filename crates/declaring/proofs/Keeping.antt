@@ -24,10 +24,12 @@ use Rattle.fields.specs.declared.Parts.{Parts}
 use Rattle.texts.specs.Text.{Declarations, no_declaration}
 use Rattle.context.specs.Holds.{Holds}
 use Rattle.context.specs.Entries.{after_declaration, declaration_row, declaring, field_code}
-use Rattle.store.specs.Store.{Store, kind_at}
+use Rattle.store.specs.Store.{kind_at}
+use Rattle.store.specs.declared.Store.{Store}
+use Rattle.store.specs.declared.Facts.{Facts}
 use Rattle.context.specs.declared.Counts.{Counts}
 use Rattle.context.proofs.Adds.{adds_constant, adds-variable}
-use Rattle.context.proofs.Change.{fact-kind}
+use Rattle.context.proofs.Change.{fact-same}
 use Rattle.levels.specs.Tables.{scene_of}
 use Rattle.text_levels.proofs.OwnWorld.{Shows}
 use Rattle.resolve.proofs.Numbers.{declarations_of, declares-declaration}
@@ -153,7 +155,7 @@ module _ (file : List ℕ) (fs : List Field) (s : State) (rs : List Row) (v : St
   codes-after =
       codes-more decls (k, n) declared o st.holds.sized.declared (omega (arith, counted)) v' (codes-kept v c v' decls declared rows-after st.early st.codes)
       (get_or-set_same v.names o n 0 (omega (arith, st.holds.sized.names)))
-      (fact-kind v.facts o (declaration_row (kind_number k) c.declarations) (omega (arith, st.holds.sized.facts)))
+      (ap (λ (f : Facts). f.kind) (fact-same v.facts o (declaration_row (kind_number k) c.declarations) (omega (arith, st.holds.sized.facts))))
       (omega arith) (omega arith) small
 
   early-after : (d : ℕ) → d < length (decls ++ ((k, n) ∷ [])) → get_or (set declared (length decls) o) d 0 < max_definitions + (c.fields + 1)

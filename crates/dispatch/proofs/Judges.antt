@@ -2,7 +2,6 @@
 use mathlib.Core.List.{List}
 use mathlib.Core.Path.{◌≡◌, subst, subst⁻¹}
 use Prim.Native.Nat.{ℕ, ◌+◌, ◌-◌, ◌*◌, ◌≤◌, ◌<◌}
-use lib.ListN.{length}
 use Rattle.limits.specs.Limits.{file_bytes, max_definitions, max_modules}
 use Rattle.limits.specs.Sizes.{max_fields}
 use Rattle.tokens.specs.Token.{number_at}
@@ -10,15 +9,14 @@ use Rattle.fields.specs.declared.Parts.TheVariants.{Module, Extends, Definition,
 use Rattle.fields.specs.declared.Parts.{Parts}
 use Rattle.agree.specs.Parts.{names_at}
 use Rattle.context.specs.Entries.{after_end, after_field, begun}
-use Rattle.store.specs.Store.{Store}
+use Rattle.store.specs.declared.Store.{Store}
 use Rattle.context.specs.declared.Counts.{Counts}
-use Rattle.levels.specs.Tables.{table_words}
 use Rattle.judge_plain.specs.Causes.{answer, end_cause, kept, module_cause}
 use Rattle.judge_plain.specs.Extending.{Extending, Ready}
 use Rattle.judge_plain.specs.declared.Judged.{Judged}
 use Rattle.judge_plain.specs.declared.Phase.TheVariants.{Begun, Outside}
 use Rattle.judge_plain.specs.declared.Phase.{Phase}
-use Rattle.standing.proofs.Asking.{definition-inside, end-asks, extends-inside, extends-ready, no_cut, no_end, underway-roomy, underway-words}
+use Rattle.standing.proofs.Asking.{definition-inside, end-asks, extends-inside, extends-ready, no_cut, no_end, underway-roomy}
 use Rattle.standing.proofs.Plain.{end-judging, extends-judging, module-judging}
 use Rattle.standing.specs.Standing.{Judging, Roomy, Underway}
 
@@ -45,17 +43,17 @@ module _ (file : List ℕ) (v : Store) (c : Counts) (p : Phase) (refs words : Li
       let i = extends-inside file v c p refs words at k (put e u) in
       (extends-ready file v c p refs words x u, i.0, i.1, r.fields, r.modules, r.definitions)
 
-  pub declaration-asks : Now → Roomy v c × (length words ≡ table_words)
-  declaration-asks u = (room u, underway-words file v c p refs words x u)
+  pub declaration-asks : Now → Roomy v c
+  declaration-asks u = room u
 
-  pub definition-asks : (n k at l : ℕ) → x ≡ Definition n k at l → Now → Roomy v c × (length words ≡ table_words) × (at + l ≤ file_bytes)
-  definition-asks n k at l e u = (room u, underway-words file v c p refs words x u, definition-inside file v c p refs words n k at l (put e u))
+  pub definition-asks : (n k at l : ℕ) → x ≡ Definition n k at l → Now → Roomy v c × (at + l ≤ file_bytes)
+  definition-asks n k at l e u = (room u, definition-inside file v c p refs words n k at l (put e u))
 
   pub instance-asks : (n k m i at : ℕ) → x ≡ Instance n k m i at → Now → Underway file v c p refs words (Instance n k m i at)
   instance-asks n k m i at e u = put e u
 
-  pub formula-asks : Now → (c.modules ≤ max_modules) × (c.fields < max_fields) × (length words ≡ table_words)
-  formula-asks u = let r = room u in (r.modules, r.fields, underway-words file v c p refs words x u)
+  pub formula-asks : Now → (c.modules ≤ max_modules) × (c.fields < max_fields)
+  formula-asks u = let r = room u in (r.modules, r.fields)
 
   pub by-cut : {A : Type 0} → x ≡ Cut → Now → A
   by-cut e u = absurd (no_cut file v c p refs words (put e u))

@@ -2,7 +2,6 @@
 #![tactic(auto)]
 
 ghost use Rattle.standing.specs.Standing.{Judging, Underway};
-ghost use Rattle.store.specs.Store.{held};
 
 use context::Counts;
 use declaring::{constant_stands, variable_stands};
@@ -11,7 +10,7 @@ use instance_names::Instance;
 use judge_instance::instance_field;
 use judge_plain::extending::extends_field;
 use judge_plain::modules::{end_field, module_field};
-use judge_plain::{Judged, NameList, Phase, refused};
+use judge_plain::{Cause, Judged, NameList, Phase, refused};
 use judge_texts::definitions::{Defines, definition_field};
 use judge_texts::formulas::{assume_field, theorem_field};
 use store::{Lent, Store};
@@ -19,15 +18,15 @@ use store::{Lent, Store};
 // Judges one field, and adds it if no cause holds.
 pub fn judge_field(
     file: &[u8],
-    store: &mut [u16; Store::LENGTH],
+    store: &mut Store,
     refs: &mut [u16; Lent::REFS],
     words: &mut [u64; Lent::WORDS],
     parts: Parts,
     phase: Phase,
     c: Counts,
 ) -> Judged
-    requires { Underway file.now (held store.old) c phase refs.old words.old parts }
-    ensures { Judging file.now parts (held store.old) (held store.new) c phase result refs.old refs.new words.old words.new }
+    requires { Underway file.now store.old c phase refs.old words.old parts }
+    ensures { Judging file.now parts store.old store.new c phase result refs.old refs.new words.old words.new }
 {
     match parts {
         Parts::Module(n) => module_field(store, phase, c, n),
@@ -72,7 +71,7 @@ pub fn judge_field(
         Parts::EndModule => end_field(store, phase, c),
         Parts::Assume(at, _) => assume_field(file, store, refs, words, phase, c, at),
         Parts::Theorem(at, _) => theorem_field(file, store, refs, words, phase, c, at),
-        Parts::Cut => refused(3, phase, c),
-        Parts::EndOfFile => refused(3, phase, c),
+        Parts::Cut => refused(Cause::Malformed.number(), phase, c),
+        Parts::EndOfFile => refused(Cause::Malformed.number(), phase, c),
     }
 }

@@ -3,17 +3,17 @@ use mathlib.Core.Path.{◌≡◌, refl, sym, ap, ap₂, subst, ◌∙◌}
 use mathlib.Core.Bool.{Bool, true, false, cond, ◌&&◌}
 use mathlib.Core.List.{List}
 use mathlib.Core.Option.{none, some}
-use Prim.Native.Nat.{ℕ, ◌+◌, ◌*◌, ◌<◌}
+use Prim.Native.Nat.{ℕ, ◌+◌, ◌<◌}
 use native.Mathlib.Omega.{arith}
 use borrow.Author.Tests.{eq-eqb, ne_eqb, eqb-true}
 use lib.Dec.{eqb}
 use lib.ListN.{get_or, length}
 use Rattle.limits.specs.Limits.{max_declarations}
-use Rattle.limits.specs.Sizes.{column_count}
 use Rattle.theory.specs.Lists.{bind_option}
 use Rattle.forms.specs.Forms.{form_at, stored}
 use Rattle.forms.proofs.Tables.{load-other, load_same, stored-length}
 use Rattle.store.specs.Store.{kind_at}
+use Rattle.store.specs.declared.Facts.{Facts}
 use Rattle.context.specs.Lookup.{declared_named}
 use Rattle.entering.specs.declared.substitutes.Site.{Site}
 use Rattle.entering.specs.Substitutes.{Around, Stands, Substituted, next_words, of_kind, same_declared}
@@ -21,8 +21,8 @@ use Rattle.entering.specs.Shared.{Again, same_kind}
 use Rattle.entering.proofs.Substituting.{substituted-turn}
 
 -- the test
-module _ (names facts : List ℕ) (e o m n : ℕ) (em : m ≡ get_or names e 0) (en : n ≡ get_or names o 0) where
-  pub kinds-told : (k l : ℕ) (r : Bool) → m ≡ n → k ≡ get_or facts (column_count * e) 0 → l ≡ get_or facts (column_count * o) 0 → r ≡ eqb k l
+module _ (names : List ℕ) (facts : List Facts) (e o m n : ℕ) (em : m ≡ get_or names e 0) (en : n ≡ get_or names o 0) where
+  pub kinds-told : (k l : ℕ) (r : Bool) → m ≡ n → k ≡ kind_at facts e → l ≡ kind_at facts o → r ≡ eqb k l
       → r ≡ same_kind names facts e o
   unfolding same_kind
   kinds-told k l r h ek el er =
@@ -35,7 +35,7 @@ module _ (names facts : List ℕ) (e o m n : ℕ) (em : m ≡ get_or names e 0) 
       (ne_eqb (get_or names e 0) (get_or names o 0) (λ (q : get_or names e 0 ≡ get_or names o 0). h (em ∙ q ∙ sym en))))
 
 -- the search
-module _ (names facts declared : List ℕ) (d : ℕ) where
+module _ (names : List ℕ) (facts : List Facts) (declared : List ℕ) (d : ℕ) where
   pub same_here : (i e o : ℕ) (r : Bool) → o ≡ get_or declared d 0 → e ≡ get_or declared i 0 → r ≡ same_kind names facts e o → r ≡ true
       → same_kind names facts (get_or declared i 0) (get_or declared d 0) ≡ true
   same_here i e o r eo ee er h = ap₂ (same_kind names facts) (sym ee) (sym eo) ∙ sym er ∙ h
@@ -59,7 +59,7 @@ both : (a b : Bool) → a && b ≡ true → (a ≡ true) × (b ≡ true)
 both true b h = (refl, h)
 both false b h = let z : ◌≡◌ {A = ℕ} 0 1 = cc in absurd (omega arith)
 
-pub same-declared : (names facts codes : List ℕ) (e o : ℕ) → same_kind names facts e o ≡ true → same_declared names facts codes e ≡ same_declared names facts codes o
+pub same-declared : (names : List ℕ) (facts : List Facts) (codes : List ℕ) (e o : ℕ) → same_kind names facts e o ≡ true → same_declared names facts codes e ≡ same_declared names facts codes o
 unfolding same_kind same_declared of_kind
 same-declared names facts codes e o h =
     let t = both (eqb (get_or names e 0) (get_or names o 0)) (eqb (kind_at facts e) (kind_at facts o)) h in

@@ -13,8 +13,7 @@ use Rattle.limits.specs.Limits.{max_definitions}
 use Rattle.context.specs.Parts.{part}
 use Rattle.context.specs.Entries.{order_of}
 use Rattle.store.specs.Store.{order_slot}
-use Rattle.context.proofs.Parts.{part-turn, part_end}
-use Rattle.worlds.specs.World.{In, Link, World, brings, number_in, place}
+use Rattle.worlds.specs.World.{In, Link, World, brings, place}
 use Rattle.entering.specs.Numbering.{Entered, ShowsNumbers}
 
 -- a store past the end changes nothing

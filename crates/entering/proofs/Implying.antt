@@ -20,12 +20,14 @@ use Rattle.forms.proofs.Leading.{gives-append, params-length}
 use Rattle.levels.specs.Tables.{place_of, scene_of}
 use Rattle.levels.proofs.Heads.{same_place}
 use Rattle.store.specs.Store.{first_at}
+use Rattle.store.specs.declared.Facts.{Facts}
 use Rattle.context.specs.Lookup.{is_declared}
+use Rattle.std.specs.Prelude.{Option as Answer, Some, None}
 use Rattle.context.specs.declared.Operator.{Operator}
-use Rattle.context.specs.declared.Operator.TheVariants.{Constant, Variable, Defined, Unknown}
+use Rattle.context.specs.declared.Operator.TheVariants.{Constant, Variable, Defined}
 use Rattle.entering.specs.Implied.{arguments_of, implied_level, number_of, ref_of}
 
-module _ (facts : List ℕ) (o : ℕ) where
+module _ (facts : List Facts) (o : ℕ) where
   pub number-declared : (b : Bool) (d : ℕ) → b ≡ is_declared facts o → b ≡ true → d ≡ first_at facts o → d < max_declarations → d ≡ number_of facts o
   unfolding number_of
   number-declared b d e t q h =
@@ -53,20 +55,20 @@ unfolding arguments_of
 arguments-none k h = rw (lt-leb k max_arity h) refl
 
 -- the number for what a name is
-module _ (facts : List ℕ) (p q : Operator) (e : p ≡ q) where
-  pub ref-constant : (o k d r : ℕ) → p ≡ Constant o k → d ≡ number_of facts o → r ≡ max_definitions + d → r ≡ ref_of facts q
+module _ (facts : List Facts) (p q : Answer Operator) (e : p ≡ q) where
+  pub ref-constant : (o k d r : ℕ) (y : Operator) → p ≡ Some y → y ≡ Constant o k → d ≡ number_of facts o → r ≡ max_definitions + d → r ≡ ref_of facts q
   unfolding ref_of
-  ref-constant o k d r z n h = h ∙ ap (λ (j : ℕ). max_definitions + j) n ∙ ap (ref_of facts) (sym z ∙ e)
+  ref-constant o k d r y z i n h = h ∙ ap (λ (j : ℕ). max_definitions + j) n ∙ ap (ref_of facts) (sym (z ∙ ap (λ (x : Operator). Some x) i) ∙ e)
 
-  pub ref-variable : (o d r : ℕ) → p ≡ Variable o → d ≡ number_of facts o → r ≡ max_definitions + d → r ≡ ref_of facts q
+  pub ref-variable : (o d r : ℕ) (y : Operator) → p ≡ Some y → y ≡ Variable o → d ≡ number_of facts o → r ≡ max_definitions + d → r ≡ ref_of facts q
   unfolding ref_of
-  ref-variable o d r z n h = h ∙ ap (λ (j : ℕ). max_definitions + j) n ∙ ap (ref_of facts) (sym z ∙ e)
+  ref-variable o d r y z i n h = h ∙ ap (λ (j : ℕ). max_definitions + j) n ∙ ap (ref_of facts) (sym (z ∙ ap (λ (x : Operator). Some x) i) ∙ e)
 
-  pub ref-defined : (g : ℕ) → p ≡ Defined g → g ≡ ref_of facts q
+  pub ref-defined : (g : ℕ) (y : Operator) → p ≡ Some y → y ≡ Defined g → g ≡ ref_of facts q
   unfolding ref_of
-  ref-defined g z = ap (ref_of facts) (sym z ∙ e)
+  ref-defined g y z i = ap (ref_of facts) (sym (z ∙ ap (λ (x : Operator). Some x) i) ∙ e)
 
-  pub ref-unknown : (r : ℕ) → p ≡ Unknown → r ≡ max_definitions + max_declarations → r ≡ ref_of facts q
+  pub ref-unknown : (r : ℕ) → p ≡ None → r ≡ max_definitions + max_declarations → r ≡ ref_of facts q
   unfolding ref_of
   ref-unknown r z h = h ∙ ap (ref_of facts) (sym z ∙ e)
 

@@ -22,13 +22,13 @@ use Rattle.forms.specs.Forms.{form_at, Gives, level_at, width}
 use Rattle.levels.specs.Tables.{names_of}
 use Rattle.levels.specs.Walk.{TextForm}
 use Rattle.store.specs.Store.{kind_at}
+use Rattle.store.specs.declared.Facts.{Facts}
 use Rattle.context.specs.Lookup.{declared_named}
 use Rattle.worlds.specs.World.{DeclaredBy, In, Link, World, brings, eval_at, number_in, params_in}
 use Rattle.worlds.specs.Tables.{Right, Table, by_tables, declared_by}
 use Rattle.worlds.proofs.Reading.{all_drop}
 use Rattle.entering.specs.declared.substitutes.Site.{Site}
-use Rattle.entering.specs.declared.written.Writing.{Writing}
-use Rattle.entering.specs.declared.written.Writing.TheVariants.{Written, Unwritten}
+use Rattle.std.specs.Prelude.{Option as Answer, Some, None}
 use Rattle.entering.specs.Numbering.{Entered, ShowsNumbers}
 use Rattle.entering.specs.Replaced.{Replaced}
 use Rattle.entering.specs.Written.{written_at}
@@ -75,9 +75,9 @@ pub record ImpliedText (decls : Declarations) (N F : ℕ → Type 0) (ar : Ariti
   pub fits : Fits ar n 0 (ref_head decls r) (kind_arity k)
   pub same : itself p k (ref_head decls r) ≡ u
 
-abbrev pub Known : Around → Site → Declarations → (ℕ → Type 0) → (ℕ → Type 0) → Arities → ℕ → Kind → ℕ → Term → Writing → Type 0
-Known a site decls N F ar n k o u (Written at) = WrittenText a decls N F ar n at u
-Known a site decls N F ar n k o u Unwritten =
+abbrev pub Known : Around → Site → Declarations → (ℕ → Type 0) → (ℕ → Type 0) → Arities → ℕ → Kind → ℕ → Term → Answer ℕ → Type 0
+Known a site decls N F ar n k o u (Some at) = WrittenText a decls N F ar n at u
+Known a site decls N F ar n k o u None =
     ImpliedText decls N F ar n site.params k (implied_ref a.names a.facts a.contexts a.heads site.owner (get_or a.names o 0)) u
 
 -- the code of the declared name in the module instanced, and what is known of its substitute
@@ -116,7 +116,7 @@ count-kind (constant n) h = rw (le-leb n max_arity h) refl
 count-kind variable h = refl
 
 -- a code that has the name and the kind is found by them
-same-there : (names facts codes : List ℕ) (e x n o : ℕ) → get_or names e 0 ≡ x → kind_at facts e ≡ n → declared_named names facts x codes ≡ some o → kind_at facts o ≡ n
+same-there : (names : List ℕ) (facts : List Facts) (codes : List ℕ) (e x n o : ℕ) → get_or names e 0 ≡ x → kind_at facts e ≡ n → declared_named names facts x codes ≡ some o → kind_at facts o ≡ n
     → same_declared names facts codes e ≡ some o
 unfolding same_declared of_kind
 same-there names facts codes e x n o en ek f eo =
@@ -128,13 +128,13 @@ module _ (G : ℕ → List ℕ → ℕ) (good : (g : ℕ) (us : List ℕ) → Al
     (Ss : List (Table ℕ)) (low : All LowTable Ss) (a : Around) (site : Site) (around-field : site.outer ≡ params_in w)
     (shows : Shows G decls N F w Ss a.numbers a.words) (ar : Arities) where
   stands-level : (k : Kind) (o : ℕ) (f : ℕ) (u : Term) (v : List ℕ) → length v ≡ params_in w + (site.params + kind_arity k) → length v ≤ width → All IsLevel v
-      → arguments_of (kind_at a.facts o) ≡ kind_arity k → (x : Writing) → StandsBy a site o x f → Known a site decls N F ar (site.params + kind_arity k) k o u x
+      → arguments_of (kind_at a.facts o) ≡ kind_arity k → (x : Answer ℕ) → StandsBy a site o x f → Known a site decls N F ar (site.params + kind_arity k) k o u x
       → level_at f v ≡ eval_at (by_tables long_way G w Ss) (params_in w) u v
-  stands-level k o f u v size short lows count (Written at) st kn =
+  stands-level k o f u v size short lows count (Some at) st kn =
       written-level G decls N F w Ss a.numbers a.words shows v lows (site.params + kind_arity k) size a.refs
       (keeps-tables G good w Ss low (take (params_in w) v) (take-levels (params_in w) v lows)) ar a.file at kn.next kn.text f u short
       (subst (λ (P : ℕ). TextForm (names_of a.refs a.numbers a.words P) a.file at f) around-field st) kn.stands kn.names kn.formed kn.same
-  stands-level k o f u v size short lows count Unwritten st kn =
+  stands-level k o f u v size short lows count None st kn =
       let r : ℕ = implied_ref a.names a.facts a.contexts a.heads site.owner (get_or a.names o 0) in
       implied-level G decls N F w Ss a.numbers a.words shows v lows (site.params + kind_arity k) size ar r site.params k f short
       (subst (λ (m : ℕ). Gives f (implied_level a.numbers a.words r (params_in w) site.params m)) count

@@ -18,7 +18,7 @@ use Rattle.theory.proofs.ExpandFirst.{Keeps}
 use Rattle.theory.proofs.Lists.{append-all}
 use Rattle.tokens.specs.Expr.{Expr, Exprs, Placed, expr_at, found}
 use Rattle.tokens.specs.declared.Token.{Token}
-use Rattle.tokens.specs.declared.Token.TheVariants.{Parameter, Bound, Name, InstanceOperator, BuiltIn, Literal, NoToken}
+use Rattle.tokens.specs.declared.Token.TheVariants.{Parameter, Bound, Name, InstanceOperator, BuiltIn, Literal}
 use Rattle.texts.specs.Text.{Declarations, named, no_declaration, ref_head, shown, token_head}
 use Rattle.texts.proofs.Levels.{AllSay, AllsSay, TokenSays, head_meaning, level-shown, own-level, params-take}
 use Rattle.forms.specs.Forms.{Gives, level_at, width}
@@ -79,7 +79,6 @@ module _ (G : ℕ → List ℕ → ℕ) (decls : Declarations) (N F : ℕ → Ty
     token-says (InstanceOperator i x m) at k ts h f = λ us l a. says ar (get_or refs at 0) (count (map_trees head_of ts)) k h f us (l ∙ sym (count_map ts)) a
     token-says (BuiltIn c) at k ts h f = tt
     token-says (Literal x) at k ts h f = tt
-    token-says NoToken at k ts h f = absurd h
 
     mutual
       all_say : (t : Expr) (k : ℕ) → TextNames N F refs t → Every (Fits ar n) k (shown refs decls t)

@@ -9,7 +9,7 @@ use Rattle.theory.specs.Term.{kind_arity, long_way}
 use Rattle.texts.specs.Text.{Declarations, no_declaration}
 use Rattle.tokens.specs.Expr.{Expr, Exprs}
 use Rattle.tokens.specs.declared.Token.{Token}
-use Rattle.tokens.specs.declared.Token.TheVariants.{Parameter, Bound, Name, InstanceOperator, BuiltIn, Literal, NoToken}
+use Rattle.tokens.specs.declared.Token.TheVariants.{Parameter, Bound, Name, InstanceOperator, BuiltIn, Literal}
 use Rattle.levels.specs.Tables.{scene_of}
 use Rattle.worlds.specs.World.{World, number_in, params_in}
 use Rattle.worlds.specs.Tables.{Table, declared_by}
@@ -36,7 +36,6 @@ TokenNames N F refs at (Name x k) = Resolved N F (get_or refs at 0)
 TokenNames N F refs at (InstanceOperator i x k) = Resolved N F (get_or refs at 0)
 TokenNames N F refs at (BuiltIn c) = Unit {0}
 TokenNames N F refs at (Literal x) = Unit {0}
-TokenNames N F refs at NoToken = ⊥
 
 -- so of every name of a text
 abbrev mutual

@@ -7,10 +7,10 @@ use Rattle.forms.specs.Forms.{Gives, form_at}
 use Rattle.levels.specs.Tables.{names_of}
 use Rattle.levels.specs.Walk.{TextForm}
 use Rattle.store.specs.Store.{kind_at}
+use Rattle.store.specs.declared.Facts.{Facts}
 use Rattle.context.specs.Lookup.{declared_named}
 use Rattle.entering.specs.declared.substitutes.Site.{Site}
-use Rattle.entering.specs.declared.written.Writing.{Writing}
-use Rattle.entering.specs.declared.written.Writing.TheVariants.{Written, Unwritten}
+use Rattle.std.specs.Prelude.{Option as Answer, Some, None}
 use Rattle.entering.specs.Written.{written_at}
 use Rattle.entering.specs.Implied.{arguments_of, implied_level, implied_ref}
 
@@ -26,11 +26,11 @@ pub record Around : Type 0 where
   pub numbers : List ℕ
   pub words : List ℕ
   pub names : List ℕ
-  pub facts : List ℕ
+  pub facts : List Facts
   pub contexts : List ℕ
   pub heads : List ℕ
 
-abbrev pub around : List ℕ → List ℕ → List ℕ → List ℕ → List ℕ → List ℕ → List ℕ → List ℕ → Around
+abbrev pub around : List ℕ → List ℕ → List ℕ → List ℕ → List ℕ → List Facts → List ℕ → List ℕ → Around
 around s refs numbers words names facts contexts heads =
     record {
       file = s;
@@ -49,9 +49,9 @@ pub record Fitting (site : Site) : Type 0 where
   pub owner : site.owner ≤ max_modules
 
 -- f gives the levels of what is written, or else those of what is implied
-abbrev pub StandsBy : Around → Site → ℕ → Writing → ℕ → Type 0
-StandsBy a site o (Written at) f = TextForm (names_of a.refs a.numbers a.words site.outer) a.file at f
-StandsBy a site o Unwritten f =
+abbrev pub StandsBy : Around → Site → ℕ → Answer ℕ → ℕ → Type 0
+StandsBy a site o (Some at) f = TextForm (names_of a.refs a.numbers a.words site.outer) a.file at f
+StandsBy a site o None f =
     Gives f
     (implied_level a.numbers a.words (implied_ref a.names a.facts a.contexts a.heads site.owner (get_or a.names o 0)) site.outer
     site.params (arguments_of (kind_at a.facts o)))
@@ -67,11 +67,11 @@ pub record StandsAt (a : Around) (site : Site) (o d : ℕ) (before after : List 
   pub others : (g : ℕ) → g ≢ d → form_at after g ≡ form_at before g
 
 -- o if it has the kind of e
-unfoldable pub of_kind : List ℕ → ℕ → ℕ → Option ℕ
+unfoldable pub of_kind : List Facts → ℕ → ℕ → Option ℕ
 of_kind facts e o = cond (eqb (kind_at facts o) (kind_at facts e)) (some o) none
 
 -- the declaration among codes that has the name and the kind of the code e
-unfoldable pub same_declared : List ℕ → List ℕ → List ℕ → ℕ → Option ℕ
+unfoldable pub same_declared : List ℕ → List Facts → List ℕ → ℕ → Option ℕ
 same_declared names facts codes e = bind_option (declared_named names facts (get_or names e 0) codes) (of_kind facts e)
 
 -- the table with a form at d: what stands for the declaration among codes that has the name and the kind of e, if there is one

@@ -1,7 +1,6 @@
 // A declared name without a substitution stands for the operator of that name where the INSTANCE field stands, at its own parameters.
 ghost use Rattle.std.specs.Prelude.{◌≡◌, ◌+◌, ◌≤◌};
 ghost use Rattle.limits.specs.Limits.{max_arity, max_declarations, max_modules};
-ghost use Rattle.store.specs.Store.{held};
 ghost use Rattle.forms.specs.Forms.{Gives};
 ghost use Rattle.entering.specs.Implied.{arguments_of, implied_level, implied_ref, number_of};
 
@@ -10,14 +9,13 @@ use context::lookup::{find_operator, is_declared};
 use forms::Form;
 use limits::Limits;
 use store::Store;
-use store::reading::fact_at;
 
 // A declaration's number among the declarations; of any other code the first number that is none.
-pub fn declared_number(store: &[u16; Store::LENGTH], o: u16) -> usize
-    ensures { (result ≡ number_of (held store.now).facts o) × (result ≤ max_declarations) }
+pub fn declared_number(store: &Store, o: u16) -> usize
+    ensures { (result ≡ number_of store.now.facts o) × (result ≤ max_declarations) }
 {
     if is_declared(store, o) {
-        let d = fact_at(store, Limits::COLUMNS * (o as usize) + 1) as usize;
+        let d = store.first_at(o as usize) as usize;
         if d < Limits::DECLARATIONS {
             return d;
         }
@@ -35,15 +33,15 @@ pub fn arguments_of(kind: u16) -> usize
 }
 
 // What a name is in module `owner`, as a number that the table of names may hold.
-pub fn implied_ref(store: &[u16; Store::LENGTH], owner: usize, name: u16) -> u16
+pub fn implied_ref(store: &Store, owner: usize, name: u16) -> u16
     requires { owner ≤ max_modules }
-    ensures { result ≡ implied_ref (held store.now).names (held store.now).facts (held store.now).contexts (held store.now).heads owner name }
+    ensures { result ≡ implied_ref store.now.names store.now.facts store.now.contexts store.now.heads owner name }
 {
     match find_operator(store, owner, name) {
-        Operator::Constant(o, _) => (Limits::DEFINITIONS + declared_number(store, o)) as u16,
-        Operator::Variable(o) => (Limits::DEFINITIONS + declared_number(store, o)) as u16,
-        Operator::Defined(g) => g,
-        Operator::Unknown => (Limits::DEFINITIONS + Limits::DECLARATIONS) as u16,
+        Some(Operator::Constant(o, _)) => (Limits::DEFINITIONS + declared_number(store, o)) as u16,
+        Some(Operator::Variable(o)) => (Limits::DEFINITIONS + declared_number(store, o)) as u16,
+        Some(Operator::Defined(g)) => g,
+        None => (Limits::DEFINITIONS + Limits::DECLARATIONS) as u16,
     }
 }
 

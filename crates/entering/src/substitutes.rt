@@ -1,20 +1,16 @@
 // What stands for each declaration of the module instanced, in the world of the INSTANCE field.
-ghost use Rattle.std.specs.Prelude.{◌≡◌, ◌+◌, ◌≤◌, ◌<◌, length};
+ghost use Rattle.std.specs.Prelude.{◌≡◌, ◌+◌, ◌≤◌, ◌<◌};
 ghost use Rattle.limits.specs.Limits.{max_declarations, max_modules};
-ghost use Rattle.store.specs.Store.{held};
 ghost use Rattle.context.specs.Entries.{context_codes};
 ghost use Rattle.context.specs.Lookup.{as_code};
-ghost use Rattle.levels.specs.Tables.{table_words};
-ghost use Rattle.entering.specs.Substitutes.{Added, Fitting, Stands, StandsAt, Substituted, around, next_words, of_kind, same_declared};
+ghost use Rattle.entering.specs.Substitutes.{Added, Fitting, Stands, StandsAt, Substituted, around, of_kind, same_declared};
 
 use crate::implied::{arguments_of, implied_form, implied_ref};
 use crate::sharing::{copy_form, first_same};
-use crate::written::{Writing, find_substitution};
-use context::Code;
+use crate::written::find_substitution;
 use context::lookup::find_declaration;
 use limits::Limits;
-use store::Store;
-use store::reading::{declared_at, fact_at, head_at, name_at};
+use store::{Lent, Store};
 
 // An INSTANCE field: the instances' parameters around it, its own, the module that it stands in, where its substitutions begin, and how
 // many there are.
@@ -37,21 +33,21 @@ pub fn substitute_form(
     s: &[u8],
     refs: &[u16],
     numbers: &[u16],
-    words: &[u64],
-    store: &[u16; Store::LENGTH],
+    words: &[u64; Lent::WORDS],
+    store: &Store,
     site: Site,
     o: u16,
 ) -> u64
-    requires { (length words.now ≡ table_words) × Fitting site }
-    ensures { Stands (around s.now refs.now numbers.now words.now (held store.now).names (held store.now).facts (held store.now).contexts (held store.now).heads) site o result }
+    requires { Fitting site }
+    ensures { Stands (around s.now refs.now numbers.now words.now store.now.names store.now.facts store.now.contexts store.now.heads) site o result }
 {
-    let name = name_at(store, o as usize);
+    let name = store.name_at(o as usize);
     let outer = site.outer;
     match find_substitution(s, site.start, site.count, name) {
-        Writing::Written(at) => levels::text_form(s, refs, numbers, words, at, outer),
-        Writing::Unwritten => {
+        Some(at) => levels::text_form(s, refs, numbers, words, at, outer),
+        None => {
             let r = implied_ref(store, site.owner, name);
-            let k = arguments_of(fact_at(store, Limits::COLUMNS * (o as usize)));
+            let k = arguments_of(store.kind_at(o as usize));
             implied_form(numbers, words, r, outer, site.params, k)
         }
     }
@@ -62,43 +58,40 @@ fn put_substitute(
     s: &[u8],
     refs: &[u16],
     numbers: &[u16],
-    words: &[u64],
-    store: &[u16; Store::LENGTH],
+    words: &[u64; Lent::WORDS],
+    store: &Store,
     site: Site,
     o: u16,
     d: usize,
-    next: &mut [u64],
+    next: &mut [u64; Limits::DECLARATIONS],
 )
-    requires { (length words.now ≡ table_words) × Fitting site × (length next.old ≡ next_words) × (d < max_declarations) }
-    ensures { StandsAt (around s.now refs.now numbers.now words.now (held store.now).names (held store.now).facts (held store.now).contexts (held store.now).heads) site o d next.old next.new }
+    requires { Fitting site × (d < max_declarations) }
+    ensures { StandsAt (around s.now refs.now numbers.now words.now store.now.names store.now.facts store.now.contexts store.now.heads) site o d next.old next.new }
 {
     let f = substitute_form(s, refs, numbers, words, store, site, o);
     next[d] = f;
 }
 
 // o if it has the kind of e.
-fn of_kind(store: &[u16; Store::LENGTH], e: u16, o: u16) -> Code
-    ensures { result ≡ as_code (of_kind (held store.now).facts e o) }
+fn of_kind(store: &Store, e: u16, o: u16) -> Option<u16>
+    ensures { result ≡ as_code (of_kind store.now.facts e o) }
 {
-    let k = fact_at(store, Limits::COLUMNS * (o as usize));
-    if k == fact_at(store, Limits::COLUMNS * (e as usize)) {
-        return Code::At(o);
+    let k = store.kind_at(o as usize);
+    if k == store.kind_at(e as usize) {
+        return Some(o);
     }
-    Code::Absent
+    None
 }
 
 // The declaration in the context of module q that has the name and the kind of e.
-fn same_declared(store: &[u16; Store::LENGTH], q: usize, e: u16) -> Code
+fn same_declared(store: &Store, q: usize, e: u16) -> Option<u16>
     requires { q ≤ max_modules }
-    ensures { result ≡ as_code (same_declared (held store.now).names (held store.now).facts (context_codes (held store.now).contexts (held store.now).heads q) e) }
+    ensures { result ≡ as_code (same_declared store.now.names store.now.facts (context_codes store.now.contexts store.now.heads q) e) }
 {
-    let name = name_at(store, e as usize);
+    let name = store.name_at(e as usize);
     let from = q * Limits::CONTEXT;
-    let count = head_at(store, Limits::PLACES + q) as usize;
-    match find_declaration(store, from, from + count, name) {
-        Code::At(o) => of_kind(store, e, o),
-        Code::Absent => Code::Absent,
-    }
+    let count = store.head_at(Limits::PLACES + q) as usize;
+    of_kind(store, e, find_declaration(store, from, from + count, name)?)
 }
 
 // The form at d of what stands for the declaration of module q that has the name and the kind of e, if there is one.
@@ -106,20 +99,19 @@ fn enter_substitute(
     s: &[u8],
     refs: &[u16],
     numbers: &[u16],
-    words: &[u64],
-    store: &[u16; Store::LENGTH],
+    words: &[u64; Lent::WORDS],
+    store: &Store,
     site: Site,
     q: usize,
     e: u16,
     d: usize,
-    next: &mut [u64],
+    next: &mut [u64; Limits::DECLARATIONS],
 )
-    requires { (length words.now ≡ table_words) × Fitting site × (length next.old ≡ next_words) × (q ≤ max_modules) × (d < max_declarations) }
-    ensures { Added (around s.now refs.now numbers.now words.now (held store.now).names (held store.now).facts (held store.now).contexts (held store.now).heads) site (context_codes (held store.now).contexts (held store.now).heads q) e d next.old next.new }
+    requires { Fitting site × (q ≤ max_modules) × (d < max_declarations) }
+    ensures { Added (around s.now refs.now numbers.now words.now store.now.names store.now.facts store.now.contexts store.now.heads) site (context_codes store.now.contexts store.now.heads q) e d next.old next.new }
 {
-    match same_declared(store, q, e) {
-        Code::At(o) => put_substitute(s, refs, numbers, words, store, site, o, d, next),
-        Code::Absent => {}
+    if let Some(o) = same_declared(store, q, e) {
+        put_substitute(s, refs, numbers, words, store, site, o, d, next);
     }
 }
 
@@ -128,22 +120,22 @@ fn enter_next(
     s: &[u8],
     refs: &[u16],
     numbers: &[u16],
-    words: &[u64],
-    store: &[u16; Store::LENGTH],
+    words: &[u64; Lent::WORDS],
+    store: &Store,
     site: Site,
     q: usize,
     d: usize,
-    next: &mut [u64],
+    next: &mut [u64; Limits::DECLARATIONS],
 )
-    requires { (length words.now ≡ table_words) × Fitting site × (length next.old ≡ next_words) × (q ≤ max_modules) × (d < max_declarations) × Substituted (around s.now refs.now numbers.now words.now (held store.now).names (held store.now).facts (held store.now).contexts (held store.now).heads) site (context_codes (held store.now).contexts (held store.now).heads q) (held store.now).declared d next.old next.old }
-    ensures { Substituted (around s.now refs.now numbers.now words.now (held store.now).names (held store.now).facts (held store.now).contexts (held store.now).heads) site (context_codes (held store.now).contexts (held store.now).heads q) (held store.now).declared (d + 1) next.old next.new }
+    requires { Fitting site × (q ≤ max_modules) × (d < max_declarations) × Substituted (around s.now refs.now numbers.now words.now store.now.names store.now.facts store.now.contexts store.now.heads) site (context_codes store.now.contexts store.now.heads q) store.now.declared d next.old next.old }
+    ensures { Substituted (around s.now refs.now numbers.now words.now store.now.names store.now.facts store.now.contexts store.now.heads) site (context_codes store.now.contexts store.now.heads q) store.now.declared (d + 1) next.old next.new }
 {
     let i = first_same(store, d);
     if i < d {
         copy_form(next, i, d);
         return;
     }
-    let e = declared_at(store, d);
+    let e = store.declared_at(d);
     enter_substitute(s, refs, numbers, words, store, site, q, e, d, next);
 }
 
@@ -153,19 +145,17 @@ pub fn enter_substitutes(
     s: &[u8],
     refs: &[u16],
     numbers: &[u16],
-    words: &[u64],
-    store: &[u16; Store::LENGTH],
+    words: &[u64; Lent::WORDS],
+    store: &Store,
     n: usize,
     site: Site,
     q: usize,
-    next: &mut [u64],
+    next: &mut [u64; Limits::DECLARATIONS],
 )
-    requires { (length words.now ≡ table_words) × Fitting site × (length next.old ≡ next_words) × (q ≤ max_modules) × (n ≤ max_declarations) }
-    ensures { Substituted (around s.now refs.now numbers.now words.now (held store.now).names (held store.now).facts (held store.now).contexts (held store.now).heads) site (context_codes (held store.now).contexts (held store.now).heads q) (held store.now).declared n next.old next.new }
+    requires { Fitting site × (q ≤ max_modules) × (n ≤ max_declarations) }
+    ensures { Substituted (around s.now refs.now numbers.now words.now store.now.names store.now.facts store.now.contexts store.now.heads) site (context_codes store.now.contexts store.now.heads q) store.now.declared n next.old next.new }
 {
-    let mut d: usize = 0;
-    while d < n {
+    for d in 0..n {
         enter_next(s, refs, numbers, words, store, site, q, d, next);
-        d += 1;
     }
 }

@@ -1,4 +1,5 @@
 -- From the string of a query's term to its reply.
+use Rattle.std.specs.Prelude.{Result}
 use mathlib.Core.Bool.{Bool, false, true}
 use mathlib.Core.List.{List, []}
 use mathlib.Core.Logic.{inl}
@@ -14,14 +15,14 @@ use Rattle.rules.specs.Field.{Field}
 use Rattle.rules.specs.Query.{expansion_bytes_of, unless_longer}
 use Rattle.rules.specs.State.{State, templates_of}
 use Rattle.context.specs.Entries.{codes_of}
-use Rattle.store.specs.Store.{Store}
+use Rattle.store.specs.declared.Store.{Store}
 use Rattle.context.specs.declared.Counts.{Counts}
 use Rattle.judge_plain.specs.declared.Phase.{Phase}
 use Rattle.resolve.proofs.Numbers.{declarations_of}
 use Rattle.standing.specs.Standing.{Standing, itselves}
 use Rattle.strings.proofs.Reading.{stands}
 use Rattle.strings.specs.Read.{string_at}
-use Rattle.strings.specs.declared.Filled.{Filled}
+use Rattle.std.specs.Prelude.{None, Option, Some}
 use Rattle.symbols.specs.Spell.{spell}
 use Rattle.symbols.specs.Symbol.{strip}
 use Rattle.theory.specs.Expand.{arities_of}
@@ -48,32 +49,32 @@ use Rattle.expanding.proofs.Written.{over-bytes}
 use Rattle.expanding.specs.Asks.{RepliesTo}
 use Rattle.expanding.specs.Held.{Expands, Long, StringReplies}
 use Rattle.expanding.specs.Reports.{Reports}
-use Rattle.expanding.specs.declared.Expanded.{Expanded}
-use Rattle.expanding.specs.declared.Expanded.TheVariants.{Refused}
+use Rattle.refusals.specs.declared.Refusal.{Refusal}
+use Rattle.refusals.specs.Outcomes.{refused}
 
 module _ (file refs : List ℕ) (v : Store) (declared : List ℕ) (n : ℕ) where
   -- 18, "expansion longer than .. 65,535 bytes"
   long-reply : (x : Told file refs v declared n) (p : ℕ) (t : Term) → WellFormed (arities_of (templates_of x.state)) p 0 t → Long x.state p t → (out : List ℕ)
-      → Reports (unless_longer (expansion_bytes_of x.state t) (length out)) (Refused 18 0) out out
+      → Reports (unless_longer (expansion_bytes_of x.state t) (length out)) (refused 18 0) out out
   long-reply x p t w l out =
       let k : 65535 < length (expansion_bytes_of x.state t) = rw (length_whole x.state x.ready.sound p t w) l in
       (over-bytes (expansion_bytes_of x.state t) out k, refl)
 
-  module _ (shapes a : List ℕ) (len : ℕ) (a' : List ℕ) (y : Filled) (expands : Expands file refs v declared n shapes a len a' y) where
-    pub string-long : y.fits ≡ false → (out : List ℕ) → StringReplies file refs v declared n shapes a len (Refused 18 0) out out
+  module _ (shapes a : List ℕ) (len : ℕ) (a' : List ℕ) (y : Option ℕ) (expands : Expands file refs v declared n shapes a len a' y) where
+    pub string-long : y ≡ None → (out : List ℕ) → StringReplies file refs v declared n shapes a len (refused 18 0) out out
     string-long e out =
         record { reply = λ x fit right p t w h. long-reply x p t w ((expands.expanded x fit right p t h).no e) out }
 
-    pub string-whole : y.fits ≡ true → length a' ≡ length a → (r : Expanded) (out out' : List ℕ)
-        → Reports (unless_longer (strip (string_at a' 0 y.len)) (length out)) r out out' → StringReplies file refs v declared n shapes a len r out out'
-    string-whole e same r out out' reports =
+    pub string-whole : (q : ℕ) → y ≡ Some q → length a' ≡ length a → (r : Result ℕ Refusal) (out out' : List ℕ)
+        → Reports (unless_longer (strip (string_at a' 0 q)) (length out)) r out out' → StringReplies file refs v declared n shapes a len r out out'
+    string-whole q e same r out out' reports =
         record {
           reply = λ x fit right p t w h.
-              let z = (expands.expanded x fit right p t h).yes e in
-              let read : string_at a' 0 y.len ≡ spell (shapes_of shapes) z.held.term
-              = stands a' 0 (spell (shapes_of shapes) z.held.term) y.len z.held.spelt (omega (arith, expands.within))
-              (held-near file refs v declared n x shapes p t a' y.len z.held) in
-              let bytes : strip (string_at a' 0 y.len) ≡ expansion_bytes_of x.state t
+              let z = (expands.expanded x fit right p t h).yes q e in
+              let read : string_at a' 0 q ≡ spell (shapes_of shapes) z.held.term
+              = stands a' 0 (spell (shapes_of shapes) z.held.term) q z.held.spelt (omega (arith, expands.within q e))
+              (held-near file refs v declared n x shapes p t a' q z.held) in
+              let bytes : strip (string_at a' 0 q) ≡ expansion_bytes_of x.state t
               = ap strip read ∙ sym (expansion-bytes x.state x.ready.sound (shapes_of shapes) p t z.held.term w z.held.same z.held.stands z.clear) in
               subst (λ (b : List ℕ). Reports (unless_longer b (length out)) r out out') bytes reports;
         }
@@ -128,32 +129,32 @@ module _ (file refs : List ℕ) (v : Store) (c : Counts) (m : ℕ) (expr shapes 
           (λ g k e. omega (arith, known g k e, standing.holds.definitions, standing.holds.sized.definitions)) (omega arith) term 0 w)
 
       short-reply : fits ≡ false → work_bytes ≤ room → (out : List ℕ)
-          → Reports (unless_longer (expansion_bytes_of s term) (length out)) (Refused 18 0) out out
+          → Reports (unless_longer (expansion_bytes_of s term) (length out)) (refused 18 0) out out
       unfolding told term
       short-reply f big out =
           long-reply file refs v v.declared c.declarations told n term w
           (too_long (sense_of s (shapes_of shapes)) n term its-stands (inl (omega (arith, its-string.short f)))) out
 
-      whole-reply : fits ≡ true → (r : Expanded) (out out' : List ℕ) → StringReplies file refs v v.declared c.declarations shapes a len r out out'
+      whole-reply : fits ≡ true → (r : Result ℕ Refusal) (out out' : List ℕ) → StringReplies file refs v v.declared c.declarations shapes a len r out out'
           → Reports (unless_longer (expansion_bytes_of s term) (length out)) r out out'
       unfolding told term
       whole-reply f r out out' replies =
           replies.reply told shaped.fit right n term w
           record { term = term; same = same_refl (sense_of s (shapes_of shapes)) term; stands = its-stands; spelt = (its-string.spelt f).0 }
 
-  pub query-short : fits ≡ false → work_bytes ≤ room → (out : List ℕ) → RepliesTo file refs v c m expr (Refused 18 0) out out
+  pub query-short : fits ≡ false → work_bytes ≤ room → (out : List ℕ) → RepliesTo file refs v c m expr (refused 18 0) out out
   unfolding term
   query-short f big out =
       record { reply = λ fs s rs p words standing t e is_found low n few w. short-reply fs s rs p words standing t e is_found low n few w f big out }
 
-  pub query-whole : fits ≡ true → (r : Expanded) (out out' : List ℕ) → StringReplies file refs v v.declared c.declarations shapes a len r out out'
+  pub query-whole : fits ≡ true → (r : Result ℕ Refusal) (out out' : List ℕ) → StringReplies file refs v v.declared c.declarations shapes a len r out out'
       → RepliesTo file refs v c m expr r out out'
   unfolding term
   query-whole f r out out' replies =
       record { reply = λ fs s rs p words standing t e is_found low n few w. whole-reply fs s rs p words standing t e is_found low n few w f r out out' replies }
 
   -- A string that fits is no longer than the memory.
-  pub query-over : fits ≡ true → room < len → (out : List ℕ) → RepliesTo file refs v c m expr (Refused 18 0) out out
+  pub query-over : fits ≡ true → room < len → (out : List ℕ) → RepliesTo file refs v c m expr (refused 18 0) out out
   query-over f over out =
       record {
         reply = λ fs s rs p words standing t e is_found low n few w.

@@ -18,7 +18,7 @@ use Rattle.rules.specs.Field.{Field}
 use Rattle.rules.specs.State.{State, resolve, templates_of}
 use Rattle.context.specs.Holds.{module_no}
 use Rattle.context.specs.Entries.{codes_of}
-use Rattle.store.specs.Store.{Store}
+use Rattle.store.specs.declared.Store.{Store}
 use Rattle.context.specs.declared.Counts.{Counts}
 use Rattle.judge_plain.specs.declared.Phase.{Phase}
 use Rattle.levels.proofs.Numbered.{numbers-at}
@@ -30,7 +30,7 @@ use Rattle.texts.specs.Text.{Declarations, ref_head, shown, token_head}
 use Rattle.tokens.proofs.Writing.{Bytes}
 use Rattle.tokens.specs.Expr.{Expr, Exprs, Placed, expr_at, found}
 use Rattle.tokens.specs.declared.Token.{Token}
-use Rattle.tokens.specs.declared.Token.TheVariants.{BuiltIn, Bound, InstanceOperator, Literal, Name, NoToken, Parameter}
+use Rattle.tokens.specs.declared.Token.TheVariants.{BuiltIn, Bound, InstanceOperator, Literal, Name, Parameter}
 use Rattle.unfolding.specs.InWorld.{named_in, term_in, terms_in, token_in}
 use Rattle.spelling.specs.Strings.{AllLooksBelow, LooksBelow, by_context}
 use Rattle.spelling.specs.Written.{place_of}
@@ -56,7 +56,6 @@ module _ (look : Token → ℕ) (refs : List ℕ) (decls : Declarations) where
   token-here at (InstanceOperator i n k) ts r = named_here decls (look (InstanceOperator i n k)) ts ∙ ap (λ (x : ℕ). node (ref_head decls x) ts) (sym (r refl))
   token-here at (BuiltIn c) ts r = refl
   token-here at (Literal v) ts r = refl
-  token-here at NoToken ts r = refl
 
   mutual
     pub term-here : (t : Expr) → Reads look refs t → term_in (λ i x. look x) decls (place_of 0 0 itselves) t ≡ shown refs decls t

@@ -8,13 +8,13 @@ use lib.ListN.{length}
 use native.Mathlib.Omega.{arith}
 use Prim.Native.Nat.{◌-◌, ◌<◌, ◌≤◌, max, min, suc, ℕ}
 use Rattle.limits.specs.Limits.{max_definitions}
-use Rattle.store.specs.Store.{Store}
+use Rattle.store.specs.declared.Store.{Store}
 use Rattle.rules.specs.State.{State}
 use Rattle.strings.specs.Read.{highest_call, string_at}
-use Rattle.strings.specs.declared.Filled.{Filled}
+use Rattle.std.specs.Prelude.{None, Option, Some}
+use Rattle.std.proofs.lemmas.Option.{none-some, same_Some}
 use Rattle.symbols.specs.Spell.{spell}
 use Rattle.symbols.specs.Symbol.{Symbol, begin, call, code, end, name, number, par, var}
-use Rattle.theory.proofs.Lists.{never}
 use Rattle.theory.specs.Term.{Term}
 use Rattle.unfolding.proofs.AllRight.{RightBelow}
 use Rattle.spelling.specs.Strings.{ShapesFit, shapes_of}
@@ -64,40 +64,41 @@ module _ (file refs : List ℕ) (v : Store) (declared : List ℕ) (n : ℕ) (sha
       }
 
   module _ (a : List ℕ) (size k : ℕ) (here : Going a size k) where
-    pub going_on : 0 < k → (after : List ℕ) (r : Filled) → CallsReplaced file refs v declared n shapes (k - 1) a size after r → r.fits ≡ true → length after ≡ length a
-        → (c : ℕ) → c ≡ highest_call (string_at after 0 r.len) → (k' : ℕ) → k' ≡ min (k - 1) c → Going after r.len k'
-    going_on l after r step fits same c is_c k' is-k =
+    pub going_on : 0 < k → (after : List ℕ) (r : Option ℕ) → CallsReplaced file refs v declared n shapes (k - 1) a size after r → (q : ℕ) → r ≡ Some q → length after ≡ length a
+        → (c : ℕ) → c ≡ highest_call (string_at after 0 q) → (k' : ℕ) → k' ≡ min (k - 1) c → Going after q k'
+    going_on l after r step next fits same c is_c k' is-k =
         record {
           long = same ∙ here.long;
-          inside = omega (arith, step.within, here.long);
+          inside = omega (arith, step.within next fits, here.long);
           few = omega (arith, here.few);
           going = λ x fit right p t h.
               let q = here.going x fit right p t h in
-              let z = (step.replaced x fit right p t q.held (omega (arith, q.highest))).yes fits in
-              let s = is_c ∙ ap highest_call (as_read file refs v declared n x shapes p t after r.len z.held (omega (arith, step.within))) in
+              let z = (step.replaced x fit right p t q.held (omega (arith, q.highest))).yes next fits in
+              let s = is_c ∙ ap highest_call (as_read file refs v declared n x shapes p t after next z.held (omega (arith, step.within next fits))) in
               record { held = z.held; highest = omega (arith, z.below, s) };
         }
 
-    pub going-short : 0 < k → (after : List ℕ) (r : Filled) → CallsReplaced file refs v declared n shapes (k - 1) a size after r → r.fits ≡ false → (r' : Filled)
-        → r'.fits ≡ false → r'.len ≤ length before → Expands file refs v declared n shapes before len after r'
-    going-short l after r step fits r' missed short =
-        record {
-          within = short;
+    pub going-short : 0 < k → (after : List ℕ) (r : Option ℕ) → CallsReplaced file refs v declared n shapes (k - 1) a size after r → r ≡ None → (r' : Option ℕ)
+        → r' ≡ None → Expands file refs v declared n shapes before len after r'
+    going-short l after r step fits r' missed =
+        rw missed
+        (record {
+          within = λ i e. absurd (none-some i e);
           expanded = λ x fit right p t h.
               let q = here.going x fit right p t h in
               record {
-                yes = λ e. never (sym e ∙ missed);
+                yes = λ i e. absurd (none-some i e);
                 no = λ e. (step.replaced x fit right p t q.held (omega (arith, q.highest))).no fits;
               };
-        }
+        })
 
-    pub going_end : k ≤ 0 → (r : Filled) → r.fits ≡ true → r.len ≡ size → Expands file refs v declared n shapes before len a r
-    going_end l r fits is-size =
+    pub going_end : k ≤ 0 → Expands file refs v declared n shapes before len a (Some size)
+    going_end l =
         record {
-          within = omega (arith, here.inside);
+          within = λ i e. rw (← same_Some size i e) here.inside;
           expanded = λ x fit right p t h.
               let q = here.going x fit right p t h in
               let low = held_low file refs v declared n x shapes p t a size q.held in
               let whole : Whole x.state (shapes_of shapes) p t a size = record { held = q.held; clear = none-called (spell (shapes_of shapes) q.held.term) (omega (arith, q.highest)) low } in
-              record { yes = λ e. rw is-size whole; no = λ e. never (sym fits ∙ e) };
+              record { yes = λ i e. rw (← same_Some size i e) whole; no = λ e. absurd (none-some size (sym e)) };
         }

@@ -16,11 +16,12 @@ use Rattle.laws.proofs.Invariant.{arity-known}
 use Rattle.laws.proofs.Replacing.{known-below}
 use Rattle.laws.proofs.Sound.{length-templates}
 use Rattle.rules.specs.State.{State, params_of, templates_of}
-use Rattle.store.specs.Store.{Store}
+use Rattle.store.specs.declared.Store.{Store}
 use Rattle.strings.proofs.Reading.{stands}
 use Rattle.strings.proofs.Standing.{highest-there}
 use Rattle.strings.specs.Read.{far, highest_call, string_at}
-use Rattle.strings.specs.declared.Filled.{Filled}
+use Rattle.std.specs.Prelude.{None, Option, Some}
+use Rattle.std.proofs.lemmas.Option.{none-some}
 use Rattle.symbols.proofs.Sizes.{by_two}
 use Rattle.symbols.specs.Spell.{max_params, spell}
 use Rattle.symbols.specs.Symbol.{Symbol, begin, call, calls, code, end, name, number, par, size, var, wide}
@@ -167,10 +168,10 @@ module _ (file refs : List ℕ) (v : Store) (declared : List ℕ) (n : ℕ) (x :
     called-below = omega (arith, x.ready.counted, called-known s σ p h.term h.stands.formed d there.0)
 
     -- the template does not fit
-    pub long-template : (work : List ℕ) (r : Filled) → MadeOf s d σ work r → r.fits ≡ false → Long s p t
+    pub long-template : (work : List ℕ) (r : Option ℕ) → MadeOf s d σ work r → r ≡ None → Long s p t
     long-template work r made e = long-held (made.no e p h.term h.stands there.0)
 
-    module _ (work : List ℕ) (tlen : ℕ) (y : TemplateTerm s d σ work tlen) (inside : tlen ≤ length work) (after : List ℕ) (r : Filled)
+    module _ (work : List ℕ) (tlen : ℕ) (y : TemplateTerm s d σ work tlen) (inside : tlen ≤ length work) (after : List ℕ) (r : Option ℕ)
         (rewritten : Rewritten a len d work tlen shapes after r) (big : length a ≡ work_bytes) where
       task : Task
       task = record { sense = sense_of s σ; params = p; term = h.term; arity = params_of s d; text = y.term }
@@ -207,8 +208,8 @@ module _ (file refs : List ℕ) (v : Store) (declared : List ℕ) (n : ℕ) (x :
       unfolding task
       replaced-here =
           record {
-            yes = λ e.
-                let z = new.yes e in
+            yes = λ q e.
+                let z = new.yes q e in
                 record {
                   held = record { term = new.term; same = same-trans (sense_of s σ) t h.term new.term h.same new.same; stands = new.stands; spelt = z.0 };
                   below =
@@ -225,38 +226,38 @@ module _ (file refs : List ℕ) (v : Store) (declared : List ℕ) (n : ℕ) (x :
 
 -- What one step promises.
 pub step-heavy : (file refs : List ℕ) (v : Store) (declared : List ℕ) (n : ℕ) (shapes : List ℕ) (d : ℕ) (before : List ℕ) (len : ℕ) → len ≤ length before → (w : ℕ)
-    → w ≡ weight by_two (string_at before 0 len) → 65535 < w → (r : Filled) → r.fits ≡ false → r.len ≤ length before
-    → CallsReplaced file refs v declared n shapes d before len before r
-step-heavy file refs v declared n shapes d before len inside w weighed heavy r missed short =
+    → w ≡ weight by_two (string_at before 0 len) → 65535 < w
+    → CallsReplaced file refs v declared n shapes d before len before None
+step-heavy file refs v declared n shapes d before len inside w weighed heavy =
     record {
-      within = short;
+      within = λ q z. absurd (none-some q z);
       replaced = λ x fit right p t h highest.
-          record { yes = λ z. never (sym z ∙ missed); no = λ z. long-heavy file refs v declared n x shapes p t before len h inside (omega arith) };
+          record { yes = λ q z. absurd (none-some q z); no = λ z. long-heavy file refs v declared n x shapes p t before len h inside (omega arith) };
     }
 
-module _ (file refs : List ℕ) (v : Store) (declared : List ℕ) (n : ℕ) (shapes : List ℕ) (d : ℕ) (before : List ℕ) (len : ℕ) (work : List ℕ) (y : Filled)
+module _ (file refs : List ℕ) (v : Store) (declared : List ℕ) (n : ℕ) (shapes : List ℕ) (d : ℕ) (before : List ℕ) (len : ℕ) (work : List ℕ) (y : Option ℕ)
     (made : TemplateMade file refs v declared n d shapes work y) where
-  pub step-no-template : y.fits ≡ false → (r : Filled) → r.fits ≡ false → r.len ≤ length before
-      → CallsReplaced file refs v declared n shapes d before len before r
-  step-no-template e r missed short =
-      record {
-        within = short;
+  pub step-no-template : y ≡ None → (r : Option ℕ) → r ≡ None → CallsReplaced file refs v declared n shapes d before len before r
+  step-no-template e r missed =
+      rw missed
+      (record {
+        within = λ q z. absurd (none-some q z);
         replaced = λ x fit right p t h highest.
             record {
-              yes = λ z. never (sym z ∙ missed);
+              yes = λ q z. absurd (none-some q z);
               no = λ z.
                   long-template file refs v declared n x shapes p t before len h d highest work y
                   (made.made x (called-below file refs v declared n x shapes p t before len h d highest) fit right) e;
             };
-      }
+      })
 
-  pub step-rewritten : y.fits ≡ true → (after : List ℕ) (r : Filled) → length before ≡ work_bytes → Rewritten before len d work y.len shapes after r
+  pub step-rewritten : (tlen : ℕ) → y ≡ Some tlen → (after : List ℕ) (r : Option ℕ) → length before ≡ work_bytes → Rewritten before len d work tlen shapes after r
       → CallsReplaced file refs v declared n shapes d before len after r
-  step-rewritten e after r big rewritten =
+  step-rewritten tlen e after r big rewritten =
       record {
         within = rewritten.within;
         replaced = λ x fit right p t h highest.
-            replaced-here file refs v declared n x shapes p t before len h d highest work y.len
-            ((made.made x (called-below file refs v declared n x shapes p t before len h d highest) fit right).yes e) (omega (arith, made.long, made.within)) after r
+            replaced-here file refs v declared n x shapes p t before len h d highest work tlen
+            ((made.made x (called-below file refs v declared n x shapes p t before len h d highest) fit right).yes tlen e) (omega (arith, made.long, made.within tlen e)) after r
             rewritten big;
       }

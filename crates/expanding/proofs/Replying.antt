@@ -1,4 +1,5 @@
 -- Each reply of the expansion query is the rules'.
+use Rattle.std.specs.Prelude.{None, Result}
 use borrow.Author.Tests.{le-ltb, lt-ltb, ltb-false}
 use mathlib.Core.Bool.{Bool, cond, false, not, true}
 use mathlib.Core.List.{List, [], ◌∷◌}
@@ -8,7 +9,8 @@ use Prim.Native.Nat.{ℕ, ◌+◌, ◌<◌, ◌≤◌}
 use native.Mathlib.Omega.{arith}
 use lib.Dec.{eqb}
 use lib.ListN.{length}
-use Rattle.store.specs.Store.{Store}
+use Rattle.std.specs.Prelude.{is_none}
+use Rattle.store.specs.declared.Store.{Store}
 use Rattle.limits.specs.Limits.{max_arity, max_nesting}
 use Rattle.theory.specs.Term.{Term}
 use Rattle.rules.specs.Expression.{Expression, expression, over_arity, over_limit}
@@ -28,7 +30,8 @@ use Rattle.context.specs.Parts.{part, place_of}
 use Rattle.context.specs.Entries.{codes_of}
 use Rattle.context.specs.declared.Counts.{Counts}
 use Rattle.resolve.specs.Walk.{miscounted_in}
-use Rattle.skimming.specs.Kept.{is_passed}
+use Rattle.resolve.specs.declared.Looked.{Looked}
+use Rattle.skimming.specs.Skims.{Skimmed, Skims}
 use Rattle.skimming.proofs.Ends.{kept_whole}
 use Rattle.skimming.proofs.Keeping.{kept-passed}
 use Rattle.worlds.specs.Rows.{Row}
@@ -39,13 +42,13 @@ use Rattle.asking.proofs.Judging.{asked-right, limit-law}
 use Rattle.asking.proofs.Noting.{kept-asked}
 use Rattle.asking.proofs.Replies.{found-module, no-module, none-spelt}
 use Rattle.templates.specs.Taking.{work_bytes}
-use Rattle.query_strings.specs.Read.{QueryRead}
+use Rattle.query_strings.specs.Read.{QueryKept}
 use Rattle.query_strings.specs.declared.Queried.{Queried}
 use Rattle.expanding.proofs.Asked.{text, text-formed, text-found, text-low, text-term}
 use Rattle.expanding.specs.Asks.{RepliesIn, RepliesOf, RepliesTo, read_cause}
 use Rattle.expanding.specs.Reports.{Reports}
-use Rattle.expanding.specs.declared.Expanded.{Expanded}
-use Rattle.expanding.specs.declared.Expanded.TheVariants.{Refused}
+use Rattle.refusals.specs.declared.Refusal.{Refusal}
+use Rattle.refusals.specs.Outcomes.{refused}
 
 -- the causes of a query, in their order
 module _ (b d u w : Bool) (p : ℕ) (t : Term) (f : Term → Outcome (List ℕ)) where
@@ -89,7 +92,7 @@ limit-some expr z = go (whole_of expr) z
 module _ (n : ℕ) (expr : List ℕ) (bytes : Bytes expr) where
   -- causes 3 and 5 of the bytes and the number of parameters; 0 if none holds
   bytes_cause : ℕ
-  bytes_cause = cond (whole_of expr) (limits (over_arity n) (is_passed (limit_at expr 0))) 3
+  bytes_cause = cond (whole_of expr) (limits (over_arity n) (is_none (limit_at expr 0))) 3
 
   bytes-law : (e : Expression) → whole_of expr ≡ true → expression.read expr ≡ some e → bytes_cause ≡ limits (over_arity n) (over_limit e)
   unfolding bytes_cause
@@ -103,7 +106,7 @@ module _ (n : ℕ) (expr : List ℕ) (bytes : Bytes expr) where
   unfolding bytes_cause limit_cause
   bytes-many h = rw (lt-ltb max_arity n h) refl
 
-  bytes-few : n ≤ max_arity → bytes_cause ≡ cond (whole_of expr) (cond (is_passed (limit_at expr 0)) 5 0) 3
+  bytes-few : n ≤ max_arity → bytes_cause ≡ cond (whole_of expr) (cond (is_none (limit_at expr 0)) 5 0) 3
   unfolding bytes_cause
   bytes-few h = rw (le-ltb max_arity n h) refl
 
@@ -125,7 +128,7 @@ module _ (file refs : List ℕ) (v : Store) (c : Counts) (m n : ℕ) (expr : Lis
 
   -- 3 and 5
   reply-bytes : (r : ℕ) → r ≡ bytes_cause n expr bytes → (r ≡ 0 → ⊥)
-      → RepliesIn file refs v c m n expr (Refused r c.fields) out out
+      → RepliesIn file refs v c m n expr (refused r c.fields) out out
   reply-bytes r is-r h = record { reply = λ fs s rs p words stands ended. (go s stands.holds.fields (whole_of expr) refl, refl) }
     where
       go : (s : State) → c.fields ≡ s.fields → (b : Bool) → whole_of expr ≡ b → Reply s (expression.read expr) ≡ refusal r c.fields
@@ -187,7 +190,7 @@ module _ (file refs : List ℕ) (v : Store) (c : Counts) (m n : ℕ) (expr : Lis
       few : n ≤ max_arity
       few = ltb-false max_arity n causes.0
 
-      whole : k ≡ 0 → (r : Expanded) (out' : List ℕ) → RepliesTo file refs v c m expr r out out'
+      whole : k ≡ 0 → (r : Result ℕ Refusal) (out' : List ℕ) → RepliesTo file refs v c m expr r out out'
           → Reports (End s (resolve s (module_no s m).context spelt.0)) r out out'
       whole z r out' to =
           let a = answers z in
@@ -198,10 +201,10 @@ module _ (file refs : List ℕ) (v : Store) (c : Counts) (m n : ℕ) (expr : Lis
           (0 + length expr) (text-found file fs s rs v c p refs words stands m ended expr bytes spelt.0 spelt.1 causes.1 n k asked)
           (text-low file fs s rs v c p refs words stands m ended expr bytes spelt.0 spelt.1 causes.1 n k asked) n few (rw term formed))
 
-    reply-names : (k ≡ 0 → ⊥) → RepliesIn file refs v c m n expr (Refused k c.fields) out out
+    reply-names : (k ≡ 0 → ⊥) → RepliesIn file refs v c m n expr (refused k c.fields) out out
     reply-names h = record { reply = λ fs s rs p words stands ended. (names-refused fs s rs p words stands ended h, refl) }
 
-    reply-whole : k ≡ 0 → (r : Expanded) (out' : List ℕ) → RepliesTo file refs v c m expr r out out'
+    reply-whole : k ≡ 0 → (r : Result ℕ Refusal) (out' : List ℕ) → RepliesTo file refs v c m expr r out out'
         → RepliesIn file refs v c m n expr r out out'
     reply-whole z r out' to =
         record {
@@ -211,68 +214,56 @@ module _ (file refs : List ℕ) (v : Store) (c : Counts) (m n : ℕ) (expr : Lis
 
   -- a ninth parameter is 5
   pub reply-many : max_arity < n → (r : ℕ) → r ≡ limit_cause expr
-      → RepliesIn file refs v c m n expr (Refused r c.fields) out out
+      → RepliesIn file refs v c m n expr (refused r c.fields) out out
   reply-many h r e = reply-bytes r (e ∙ sym (bytes-many n expr bytes h)) (λ z. limit-some expr (sym e ∙ z))
 
   -- what was read
-  module _ (few : n ≤ max_arity) (shapes a : List ℕ) (q : Queried) (read : QueryRead expr v.names v.facts (codes_of v m) v.declared shapes n a work_bytes q) where
-    passed : is_passed (limit_at expr 0) ≡ not q.kept
-    passed =
-        ap is_passed (sym (limited expr 0 (kept_of (expr_at max_nesting expr 0)) refl))
-        ∙ kept-passed (searching (miscounted_in v.names v.facts (codes_of v m))) 0 (expr_at max_nesting expr 0) q.kept q.looked.miscounted
-        q.looked.next read.skims.miscounted
+  module _ (few : n ≤ max_arity) where
+    passed : (kept : Bool) (l : Looked) → Skims v.names v.facts (codes_of v m) n 0 (expr_at max_nesting expr 0) kept l → is_none (limit_at expr 0) ≡ not kept
+    passed kept l h =
+        ap is_none (sym (limited expr 0 (kept_of (expr_at max_nesting expr 0)) refl))
+        ∙ kept-passed (searching (miscounted_in v.names v.facts (codes_of v m))) 0 (expr_at max_nesting expr 0) kept l.miscounted l.next h.miscounted
 
-    ends : q.kept ≡ true → whole_of expr ≡ eqb q.looked.next (length expr)
-    ends k =
-        kept_whole (searching (miscounted_in v.names v.facts (codes_of v m))) 0 expr q.kept q.looked.miscounted q.looked.next
-        read.skims.miscounted k
-
-    bytes_read : (b : Bool) → q.kept ≡ b → bytes_cause n expr bytes ≡ cond b (cond (eqb q.looked.next (length expr)) 0 3) (limit_cause expr)
+    pub reply-passed : Skimmed v.names v.facts (codes_of v m) n 0 (expr_at max_nesting expr 0) None → (r : ℕ) → r ≡ limit_cause expr
+        → RepliesIn file refs v c m n expr (refused r c.fields) out out
     unfolding limit_cause
-    bytes_read true k = bytes-few n expr bytes few ∙ rw (passed, k, ends k) refl
-    bytes_read false k = bytes-few n expr bytes few ∙ rw (passed, k) refl
+    reply-passed h r e =
+        let l : Looked = record { next = 0; unknown = false; miscounted = false } in
+        reply-bytes r (e ∙ sym (bytes-few n expr bytes few ∙ rw (passed false l (h l)) refl)) (λ z. limit-some expr (sym e ∙ z))
 
-    asked : q.kept ≡ true → (k : ℕ) → k ≡ name_cause q.looked.unknown q.looked.miscounted
-        → NamesAsked v.names v.facts (codes_of v m) n (expr_at max_nesting expr 0) k
-    asked h k e =
-        kept-asked v.names v.facts (codes_of v m) n expr q.kept q.looked.unknown q.looked.miscounted q.looked.next read.skims.unknown
-        read.skims.miscounted h k e
+    module _ (shapes a : List ℕ) (q : Queried) (read : QueryKept expr v.names v.facts (codes_of v m) v.declared shapes n a work_bytes q) where
+      ends : whole_of expr ≡ eqb q.looked.next (length expr)
+      ends =
+          kept_whole (searching (miscounted_in v.names v.facts (codes_of v m))) 0 expr true q.looked.miscounted q.looked.next
+          read.skims.miscounted refl
 
-    pub reply-cause : (r : ℕ) → r ≡ read_cause expr q → (r ≡ 0 → ⊥)
-        → RepliesIn file refs v c m n expr (Refused r c.fields) out out
-    unfolding read_cause
-    reply-cause r is-r h = go q.kept refl (eqb q.looked.next (length expr)) refl
-      where
-        go : (b : Bool) → q.kept ≡ b → (w : Bool) → eqb q.looked.next (length expr) ≡ w
-            → RepliesIn file refs v c m n expr (Refused r c.fields) out out
-        go true k true w = reply-names (bytes_read true k ∙ rw w refl) r (asked k r (is-r ∙ rw (k, w) refl)) h
-        go true k false w =
-            let e : read_cause expr q ≡ 3 = rw (k, w) refl in
-            reply-bytes r (is-r ∙ e ∙ sym (bytes_read true k ∙ rw w refl)) h
-        go false k b w =
-            let e : read_cause expr q ≡ limit_cause expr = rw k refl in
-            reply-bytes r (is-r ∙ e ∙ sym (bytes_read false k)) h
+      bytes_read : bytes_cause n expr bytes ≡ cond (eqb q.looked.next (length expr)) 0 3
+      bytes_read = bytes-few n expr bytes few ∙ rw (passed true q.looked read.skims, ends) refl
 
-    -- no cause
-    pub read_kept : read_cause expr q ≡ 0 → q.kept ≡ true
-    unfolding read_cause
-    read_kept z = go q.kept refl
-      where
-        go : (b : Bool) → q.kept ≡ b → q.kept ≡ true
-        go true k = k
-        go false k = absurd (limit-some expr (sym (rw k refl) ∙ z))
+      asked : (k : ℕ) → k ≡ name_cause q.looked.unknown q.looked.miscounted → NamesAsked v.names v.facts (codes_of v m) n (expr_at max_nesting expr 0) k
+      asked k e =
+          kept-asked v.names v.facts (codes_of v m) n expr true q.looked.unknown q.looked.miscounted q.looked.next read.skims.unknown
+          read.skims.miscounted refl k e
 
-    pub reply-clear : read_cause expr q ≡ 0 → (r : Expanded) (out' : List ℕ) → RepliesTo file refs v c m expr r out out'
-        → RepliesIn file refs v c m n expr r out out'
-    unfolding read_cause
-    reply-clear z r out' to = go (eqb q.looked.next (length expr)) refl
-      where
-        kept : q.kept ≡ true
-        kept = read_kept z
+      pub reply-cause : (r : ℕ) → r ≡ read_cause expr q → (r ≡ 0 → ⊥) → RepliesIn file refs v c m n expr (refused r c.fields) out out
+      unfolding read_cause
+      reply-cause r is-r h = go (eqb q.looked.next (length expr)) refl
+        where
+          go : (w : Bool) → eqb q.looked.next (length expr) ≡ w → RepliesIn file refs v c m n expr (refused r c.fields) out out
+          go true w = reply-names (bytes_read ∙ rw w refl) r (asked r (is-r ∙ rw w refl)) h
+          go false w =
+              let e : read_cause expr q ≡ 3 = rw w refl in
+              reply-bytes r (is-r ∙ e ∙ sym (bytes_read ∙ rw w refl)) h
 
-        go : (w : Bool) → eqb q.looked.next (length expr) ≡ w → RepliesIn file refs v c m n expr r out out'
-        go true w = reply-whole (bytes_read true kept ∙ rw w refl) 0 (asked kept 0 (sym z ∙ rw (kept, w) refl)) refl r out' to
-        go false w = absurd (let y : ◌≡◌ {A = ℕ} 3 0 = sym (rw (kept, w) refl) ∙ z in omega arith)
+      -- no cause
+      pub reply-clear : read_cause expr q ≡ 0 → (r : Result ℕ Refusal) (out' : List ℕ) → RepliesTo file refs v c m expr r out out'
+          → RepliesIn file refs v c m n expr r out out'
+      unfolding read_cause
+      reply-clear z r out' to = go (eqb q.looked.next (length expr)) refl
+        where
+          go : (w : Bool) → eqb q.looked.next (length expr) ≡ w → RepliesIn file refs v c m n expr r out out'
+          go true w = reply-whole (bytes_read ∙ rw w refl) 0 (asked 0 (sym z ∙ rw w refl)) refl r out' to
+          go false w = absurd (let y : ◌≡◌ {A = ℕ} 3 0 = sym (rw w refl) ∙ z in omega arith)
 
 -- The reply by a module's name.
 module _ (file refs : List ℕ) (v : Store) (c : Counts) (m n : ℕ) (expr out : List ℕ) (q : ℕ)
@@ -281,14 +272,14 @@ module _ (file refs : List ℕ) (v : Store) (c : Counts) (m n : ℕ) (expr out :
   ByModule s o = and_then (and_then (or_no_such o) (λ M. read_in s M [] n (expression.read expr))) (λ t. unless_longer (expansion_bytes_of s t) (length out))
 
   -- 17
-  pub reply-no-module : c.modules ≤ q → RepliesOf file refs v c m n expr (Refused 17 0) out out
+  pub reply-no-module : c.modules ≤ q → RepliesOf file refs v c m n expr (refused 17 0) out out
   reply-no-module h =
       record {
         reply = λ fs s rs p words stands. (ap (ByModule s) (no-module v c s stands.holds m q place h), refl);
       }
 
   -- the reply in the module found
-  pub reply-there : (r : Expanded) (out' : List ℕ) → q < c.modules → RepliesIn file refs v c q n expr r out out'
+  pub reply-there : (r : Result ℕ Refusal) (out' : List ℕ) → q < c.modules → RepliesIn file refs v c q n expr r out out'
       → RepliesOf file refs v c m n expr r out out'
   reply-there r out' ended a =
       record {

@@ -1,4 +1,5 @@
 -- The output: "expansion longer than the output or 65,535 bytes", or its bytes.
+use Rattle.std.specs.Prelude.{Ok}
 use mathlib.Core.Bool.{Bool, ◌||◌, false, true}
 use mathlib.Core.List.{List, ◌++◌}
 use mathlib.Core.Path.{◌∙◌, ◌≡◌, ap, refl}
@@ -8,12 +9,12 @@ use lib.ListN.{drop, length}
 use lib.Seq.{sets, sets-eq}
 use native.Mathlib.Nat.{zero-add}
 use native.Mathlib.Omega.{arith}
-use Prim.Native.Nat.{◌+◌, ◌<◌, ◌≤◌, ℕ}
+use Prim.Native.Nat.{◌<◌, ◌≤◌, ℕ}
 use Rattle.limits.specs.Limits.{expansion_bytes}
 use Rattle.rules.specs.Query.{unless_longer}
 use Rattle.rules.specs.Run.{refusal}
 use Rattle.expanding.specs.Reports.{Reports}
-use Rattle.expanding.specs.declared.Expanded.TheVariants.{Length, Refused}
+use Rattle.refusals.specs.Outcomes.{refused}
 
 or_right : (a : Bool) → (a || true) ≡ true
 or_right true = refl
@@ -28,13 +29,13 @@ module _ (bytes out : List ℕ) where
   over-room h = rw (lt-ltb (length out) (length bytes) h, or_right (ltb expansion_bytes (length bytes))) refl
 
   module _ (n : ℕ) (is-n : n ≡ length bytes) where
-    pub out-long : expansion_bytes < n → Reports (unless_longer bytes (length out)) (Refused 18 0) out out
+    pub out-long : expansion_bytes < n → Reports (unless_longer bytes (length out)) (refused 18 0) out out
     out-long h = (over-bytes (omega arith), refl)
 
-    pub out-short : length out < n → Reports (unless_longer bytes (length out)) (Refused 18 0) out out
+    pub out-short : length out < n → Reports (unless_longer bytes (length out)) (refused 18 0) out out
     out-short h = (over-room (omega arith), refl)
 
-    pub out_written : n ≤ expansion_bytes → n ≤ length out → (after : List ℕ) → after ≡ sets out 0 bytes → Reports (unless_longer bytes (length out)) (Length n) out after
+    pub out_written : n ≤ expansion_bytes → n ≤ length out → (after : List ℕ) → after ≡ sets out 0 bytes → Reports (unless_longer bytes (length out)) (Ok n) out after
     out_written h k after e = (
       bytes,
       rw (le-ltb expansion_bytes (length bytes) (omega arith), le-ltb (length out) (length bytes) (omega arith)) refl,

@@ -1,5 +1,5 @@
 -- Where an expansion stands: the string in the memory is that of a term that means the same as the one to be expanded.
-use Rattle.std.specs.Prelude.{false, true, List, [], ◌≡◌, ℕ, suc, ◌≤◌, ◌<◌, length, replicate}
+use Rattle.std.specs.Prelude.{None, Option, Result, Some, false, true, List, [], ◌≡◌, ℕ, suc, ◌≤◌, ◌<◌, length, replicate}
 use Rattle.symbols.specs.Spell.{spell}
 use Rattle.symbols.specs.Symbol.{Spelt, calls}
 use Rattle.theory.proofs.Size.{sizes}
@@ -8,9 +8,8 @@ use Rattle.theory.specs.Expand.{arities_of}
 use Rattle.theory.specs.Term.{Term, WellFormed, eval, with_defined}
 use Rattle.rules.specs.Query.{expansion_bytes_of, unless_longer}
 use Rattle.rules.specs.State.{State, templates_of}
-use Rattle.store.specs.Store.{Store}
+use Rattle.store.specs.declared.Store.{Store}
 use Rattle.strings.specs.Read.{highest_call}
-use Rattle.strings.specs.declared.Filled.{Filled}
 use Rattle.unfolding.specs.CalleeTerm.{sense_of}
 use Rattle.unfolding.specs.Meaning.{meaning_of}
 use Rattle.unfolding.specs.Sense.{Same, Stands}
@@ -18,7 +17,7 @@ use Rattle.unfolding.proofs.AllRight.{RightBelow}
 use Rattle.spelling.specs.Strings.{ShapesFit, shapes_of}
 use Rattle.templates.specs.Told.{Told}
 use Rattle.expanding.specs.Reports.{Reports}
-use Rattle.expanding.specs.declared.Expanded.{Expanded}
+use Rattle.refusals.specs.declared.Refusal.{Refusal}
 
 pub record Held (s : State) (σ : ℕ → ℕ) (p : ℕ) (t : Term) (a : List ℕ) (len : ℕ) : Type 0 where
   pub term : Term
@@ -35,13 +34,13 @@ pub record Lower (s : State) (σ : ℕ → ℕ) (p : ℕ) (t : Term) (d : ℕ) (
   pub held : Held s σ p t a len
   pub below : highest_call (spell σ held.term) ≤ d
 
-pub record Replaces (s : State) (σ : ℕ → ℕ) (p : ℕ) (t : Term) (d : ℕ) (a : List ℕ) (r : Filled) : Type 0 where
-  pub yes : r.fits ≡ true → Lower s σ p t d a r.len
-  pub no : r.fits ≡ false → Long s p t
+pub record Replaces (s : State) (σ : ℕ → ℕ) (p : ℕ) (t : Term) (d : ℕ) (a : List ℕ) (r : Option ℕ) : Type 0 where
+  pub yes : (q : ℕ) → r ≡ Some q → Lower s σ p t d a q
+  pub no : r ≡ None → Long s p t
 
 -- The calls of definition d, the highest that is called, have been replaced.
-pub record CallsReplaced (file refs : List ℕ) (v : Store) (declared : List ℕ) (n : ℕ) (shapes : List ℕ) (d : ℕ) (before : List ℕ) (len : ℕ) (after : List ℕ) (r : Filled) : Type 0 where
-  pub within : r.len ≤ length before
+pub record CallsReplaced (file refs : List ℕ) (v : Store) (declared : List ℕ) (n : ℕ) (shapes : List ℕ) (d : ℕ) (before : List ℕ) (len : ℕ) (after : List ℕ) (r : Option ℕ) : Type 0 where
+  pub within : (q : ℕ) → r ≡ Some q → q ≤ length before
   pub replaced : (x : Told file refs v declared n) → ShapesFit shapes → RightBelow x.state (shapes_of shapes) x.counts.definitions → (p : ℕ) (t : Term)
       → (h : Held x.state (shapes_of shapes) p t before len) → highest_call (spell (shapes_of shapes) h.term) ≡ suc d
       → Replaces x.state (shapes_of shapes) p t d after r
@@ -51,18 +50,18 @@ pub record Whole (s : State) (σ : ℕ → ℕ) (p : ℕ) (t : Term) (a : List �
   pub held : Held s σ p t a len
   pub clear : any (calls (λ n. true)) (spell σ held.term) ≡ false
 
-pub record Ends (s : State) (σ : ℕ → ℕ) (p : ℕ) (t : Term) (a : List ℕ) (r : Filled) : Type 0 where
-  pub yes : r.fits ≡ true → Whole s σ p t a r.len
-  pub no : r.fits ≡ false → Long s p t
+pub record Ends (s : State) (σ : ℕ → ℕ) (p : ℕ) (t : Term) (a : List ℕ) (r : Option ℕ) : Type 0 where
+  pub yes : (q : ℕ) → r ≡ Some q → Whole s σ p t a q
+  pub no : r ≡ None → Long s p t
 
 -- All calls have been replaced.
-pub record Expands (file refs : List ℕ) (v : Store) (declared : List ℕ) (n : ℕ) (shapes before : List ℕ) (len : ℕ) (after : List ℕ) (r : Filled) : Type 0 where
-  pub within : r.len ≤ length before
+pub record Expands (file refs : List ℕ) (v : Store) (declared : List ℕ) (n : ℕ) (shapes before : List ℕ) (len : ℕ) (after : List ℕ) (r : Option ℕ) : Type 0 where
+  pub within : (q : ℕ) → r ≡ Some q → q ≤ length before
   pub expanded : (x : Told file refs v declared n) → ShapesFit shapes → RightBelow x.state (shapes_of shapes) x.counts.definitions → (p : ℕ) (t : Term)
       → Held x.state (shapes_of shapes) p t before len → Ends x.state (shapes_of shapes) p t after r
 
 -- The reply to a term whose string stands in the memory.
-pub record StringReplies (file refs : List ℕ) (v : Store) (declared : List ℕ) (n : ℕ) (shapes a : List ℕ) (len : ℕ) (r : Expanded) (before after : List ℕ) : Type 0 where
+pub record StringReplies (file refs : List ℕ) (v : Store) (declared : List ℕ) (n : ℕ) (shapes a : List ℕ) (len : ℕ) (r : Result ℕ Refusal) (before after : List ℕ) : Type 0 where
   pub reply : (x : Told file refs v declared n) → ShapesFit shapes → RightBelow x.state (shapes_of shapes) x.counts.definitions → (p : ℕ) (t : Term)
       → WellFormed (arities_of (templates_of x.state)) p 0 t → Held x.state (shapes_of shapes) p t a len
       → Reports (unless_longer (expansion_bytes_of x.state t) (length before)) r before after

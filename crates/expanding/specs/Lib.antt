@@ -1,4 +1,3 @@
-pub mod Reply
 pub mod Held
 pub mod Reports
 pub mod Asks

@@ -5,21 +5,27 @@ ghost use Rattle.symbols.specs.Symbol.{strip};
 ghost use Rattle.strings.specs.Read.{string_at};
 ghost use Rattle.expanding.specs.Reports.{Reports};
 
-use crate::Expanded;
 use limits::Limits;
+use refusals::Refusal;
 use strings::{put_strip, stripped_length};
 
 // The bytes of a string without its brackets are written, if there are no more than 65,535 and the output is as long.
-pub fn put_out(a: &[u8], len: usize, out: &mut [u8]) -> Expanded
+pub fn put_out(a: &[u8], len: usize, out: &mut [u8]) -> Result<usize, Refusal>
     ensures { Reports (unless_longer (strip (string_at a.now 0 len)) (length out.old)) result out.old out.new }
 {
     let n = stripped_length(a, len);
     if Limits::EXPANSION_BYTES < n {
-        return Expanded::Refused(18, 0);
+        return Err(Refusal {
+            cause: 18,
+            place: 0,
+        });
     }
     if out.len() < n {
-        return Expanded::Refused(18, 0);
+        return Err(Refusal {
+            cause: 18,
+            place: 0,
+        });
     }
     put_strip(a, len, out);
-    Expanded::Length(n)
+    Ok(n)
 }

@@ -7,19 +7,12 @@ ghost use Rattle.symbols.proofs.Sizes.{by_two};
 ghost use Rattle.symbols.specs.Weight.{symbol_weight, weight};
 ghost use Rattle.templates.specs.Taking.{work_bytes};
 ghost use Rattle.expanding.specs.Held.{CallsReplaced, Expands};
-ghost use Rattle.store.specs.Store.{held};
 
 use limits::Limits;
 use replacing::rewrite;
 use store::{Lent, Store};
-use strings::{Filled, Sign, highest_call, symbol_at, width};
+use strings::{Sign, highest_call, symbol_at, width};
 use templates::making::template;
-
-fn lesser(a: usize, b: usize) -> usize
-    ensures { result ≡ min a b }
-{
-    if a < b { a } else { b }
-}
 
 // How many bytes of an expansion a symbol stands for, at least.
 fn symbol_weight(g: Sign) -> usize
@@ -41,7 +34,7 @@ fn symbol_weight(g: Sign) -> usize
 fn string_weight(s: &[u8], n: usize) -> usize
     ensures { result ≡ weight by_two (string_at s.now 0 n) }
 {
-    let end = lesser(n, s.len());
+    let end = n.min(s.len());
     let mut i: usize = 0;
     let mut q: usize = 0;
     while i < end {
@@ -52,11 +45,11 @@ fn string_weight(s: &[u8], n: usize) -> usize
     q
 }
 
-// The calls of definition d replaced, unless the expansion is known to be too long.
+// The calls of definition d replaced: how long the string is then, if it fits; unless the expansion is known to be too long.
 fn replace_calls(
     file: &[u8],
     refs: &[u16; Lent::REFS],
-    store: &[u16; Store::LENGTH],
+    store: &Store,
     n: usize,
     shapes: &[u32],
     d: usize,
@@ -64,59 +57,39 @@ fn replace_calls(
     len: usize,
     work: &mut [u8],
     filled: &mut [u8],
-) -> Filled
+) -> Option<usize>
     requires { (d < max_definitions) × (length shapes.now ≡ max_definitions) × (length a.old ≡ work_bytes) × (len ≤ length a.old) × (length work.old ≡ work_bytes) × (length filled.old ≡ work_bytes) }
-    ensures { CallsReplaced file.now refs.now (held store.now) (held store.now).declared n shapes.now d a.old len a.new result }
+    ensures { CallsReplaced file.now refs.now store.now store.now.declared n shapes.now d a.old len a.new result }
 {
     // Each pass costs a string's length: one that is too long already is not passed over again.
     if Limits::EXPANSION_BYTES < string_weight(a, len) {
-        return Filled {
-            fits: false,
-            len: 0,
-        };
+        return None;
     }
-    let made = template(file, refs, store, n, shapes, d, work, filled);
-    if made.fits {
-        return rewrite(a, len, d as u16, work, made.len, shapes, filled);
-    }
-    Filled {
-        fits: false,
-        len: 0,
-    }
+    let tlen = template(file, refs, store, n, shapes, d, work, filled)?;
+    rewrite(a, len, d as u16, work, tlen, shapes, filled)
 }
 
 // The string of a term, its calls replaced until none is left.
 pub fn expansion(
     file: &[u8],
     refs: &[u16; Lent::REFS],
-    store: &[u16; Store::LENGTH],
+    store: &Store,
     n: usize,
     shapes: &[u32],
     a: &mut [u8],
     len: usize,
     work: &mut [u8],
     filled: &mut [u8],
-) -> Filled
+) -> Option<usize>
     requires { (length shapes.now ≡ max_definitions) × (length a.old ≡ work_bytes) × (len ≤ length a.old) × (length work.old ≡ work_bytes) × (length filled.old ≡ work_bytes) }
-    ensures { Expands file.now refs.now (held store.now) (held store.now).declared n shapes.now a.old len a.new result }
+    ensures { Expands file.now refs.now store.now store.now.declared n shapes.now a.old len a.new result }
 {
     let mut size = len;
     let mut k = highest_call(a, size);
     while 0 < k {
-        let r = replace_calls(file, refs, store, n, shapes, k - 1, a, size, work, filled);
-        if r.fits {
-            size = r.len;
-            let c = highest_call(a, size);
-            k = lesser(k - 1, c);
-        } else {
-            return Filled {
-                fits: false,
-                len: 0,
-            };
-        }
+        size = replace_calls(file, refs, store, n, shapes, k - 1, a, size, work, filled)?;
+        let c = highest_call(a, size);
+        k = (k - 1).min(c);
     }
-    Filled {
-        fits: true,
-        len: size,
-    }
+    Some(size)
 }

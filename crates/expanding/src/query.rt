@@ -5,9 +5,7 @@ ghost use Rattle.templates.specs.Shaped.{DefinitionsShaped};
 ghost use Rattle.templates.specs.Taking.{work_bytes};
 ghost use Rattle.expanding.specs.Asks.{ReadReplies, RepliesIn, RepliesOf, read_cause};
 ghost use Rattle.expanding.specs.Held.{StringReplies};
-ghost use Rattle.store.specs.Store.{held};
 
-use crate::Expanded;
 use crate::output::put_out;
 use crate::passes::expansion;
 use asking::reading::limit_cause;
@@ -15,36 +13,34 @@ use context::Counts;
 use context::lookup::find_module;
 use limits::Limits;
 use query_strings::{Queried, query_string};
+use refusals::Refusal;
 use store::{Lent, Store};
 use templates::shaping::shape_definitions;
 
 // A string longer than this belongs to an expansion longer than 65,535 bytes.
 const WORK_BYTES: usize = 131072;
 
-// Causes 3, 5, 9 and 10 of an expression, by what was read of it.
+// Causes 3, 9 and 10 of an expression that keeps the limits, by what was read of it.
 fn read_cause(expr: &[u8], q: Queried) -> u8
     ensures { result ≡ read_cause expr.now q }
 {
-    if q.kept {
-        if q.looked.next == expr.len() {
-            if q.looked.unknown {
-                return 9;
-            }
-            if q.looked.miscounted {
-                return 10;
-            }
-            return 0;
+    if q.looked.next == expr.len() {
+        if q.looked.unknown {
+            return 9;
         }
-        return 3;
+        if q.looked.miscounted {
+            return 10;
+        }
+        return 0;
     }
-    limit_cause(expr)
+    3
 }
 
 // The reply to the term whose string stands in a.
 fn expand_string(
     file: &[u8],
     refs: &[u16; Lent::REFS],
-    store: &[u16; Store::LENGTH],
+    store: &Store,
     n: usize,
     shapes: &[u32],
     a: &mut [u8],
@@ -52,40 +48,50 @@ fn expand_string(
     work: &mut [u8],
     filled: &mut [u8],
     out: &mut [u8],
-) -> Expanded
+) -> Result<usize, Refusal>
     requires { (length shapes.now ≡ max_definitions) × (len ≤ length a.old) × (length a.old ≡ work_bytes) × (length work.old ≡ work_bytes) × (length filled.old ≡ work_bytes) }
-    ensures { StringReplies file.now refs.now (held store.now) (held store.now).declared n shapes.now a.old len result out.old out.new }
+    ensures { StringReplies file.now refs.now store.now store.now.declared n shapes.now a.old len result out.old out.new }
 {
-    let r = expansion(file, refs, store, n, shapes, a, len, work, filled);
-    if r.fits {
-        return put_out(a, r.len, out);
-    }
-    Expanded::Refused(18, 0)
+    let Some(size) = expansion(file, refs, store, n, shapes, a, len, work, filled) else {
+        return Err(Refusal {
+            cause: 18,
+            place: 0,
+        });
+    };
+    put_out(a, size, out)
 }
 
 // The reply to an expression that was read: its string stands in a. The place of a refusal is the number of fields.
 fn expand_read(
     expr: &[u8],
-    q: Queried,
+    q: Option<Queried>,
     file: &[u8],
     refs: &[u16; Lent::REFS],
-    store: &[u16; Store::LENGTH],
+    store: &Store,
     c: Counts,
     shapes: &[u32],
     a: &mut [u8],
     work: &mut [u8],
     filled: &mut [u8],
     out: &mut [u8],
-) -> Expanded
+) -> Result<usize, Refusal>
     requires { (length shapes.now ≡ max_definitions) × (length a.old ≡ work_bytes) × (length work.old ≡ work_bytes) × (length filled.old ≡ work_bytes) }
-    ensures { ReadReplies file.now refs.now (held store.now) c expr.now q shapes.now a.old result out.old out.new }
+    ensures { ReadReplies file.now refs.now store.now c expr.now q shapes.now a.old result out.old out.new }
 {
+    let Some(q) = q else {
+        return Err(Refusal {
+            cause: limit_cause(expr),
+            place: c.fields,
+        });
+    };
     let cause = read_cause(expr, q);
     if cause != 0 {
-        return Expanded::Refused(cause, c.fields);
+        return Err(Refusal {
+            cause,
+            place: c.fields,
+        });
     }
-    if q.fits {
-        let len = q.len;
+    if let Some(len) = q.len {
         if len <= a.len() {
             return expand_string(
                 file,
@@ -101,7 +107,10 @@ fn expand_read(
             );
         }
     }
-    Expanded::Refused(18, 0)
+    Err(Refusal {
+        cause: 18,
+        place: 0,
+    })
 }
 
 // The reply in module m, the shapes of the definitions being known.
@@ -110,7 +119,7 @@ fn expand_shaped(
     params: usize,
     file: &[u8],
     refs: &[u16; Lent::REFS],
-    store: &[u16; Store::LENGTH],
+    store: &Store,
     c: Counts,
     m: usize,
     shapes: &[u32],
@@ -118,9 +127,9 @@ fn expand_shaped(
     work: &mut [u8],
     filled: &mut [u8],
     out: &mut [u8],
-) -> Expanded
-    requires { (m ≤ max_modules) × (length file.now ≤ file_bytes) × (params ≤ max_arity) × DefinitionsShaped file.now refs.now (held store.now) (held store.now).declared c.declarations c.definitions shapes.now × (length a.old ≡ work_bytes) × (length work.old ≡ work_bytes) × (length filled.old ≡ work_bytes) }
-    ensures { RepliesIn file.now refs.now (held store.now) c m params expr.now result out.old out.new }
+) -> Result<usize, Refusal>
+    requires { (m ≤ max_modules) × (length file.now ≤ file_bytes) × (params ≤ max_arity) × DefinitionsShaped file.now refs.now store.now store.now.declared c.declarations c.definitions shapes.now × (length a.old ≡ work_bytes) × (length work.old ≡ work_bytes) × (length filled.old ≡ work_bytes) }
+    ensures { RepliesIn file.now refs.now store.now c m params expr.now result out.old out.new }
 {
     let q = query_string(expr, store, shapes, m, params, a);
     expand_read(expr, q, file, refs, store, c, shapes, a, work, filled, out)
@@ -132,7 +141,7 @@ fn expand_with(
     params: usize,
     file: &[u8],
     refs: &[u16; Lent::REFS],
-    store: &[u16; Store::LENGTH],
+    store: &Store,
     c: Counts,
     m: usize,
     shapes: &mut [u32],
@@ -140,12 +149,15 @@ fn expand_with(
     work: &mut [u8],
     filled: &mut [u8],
     out: &mut [u8],
-) -> Expanded
+) -> Result<usize, Refusal>
     requires { (m ≤ max_modules) × (length file.now ≤ file_bytes) × (c.definitions ≤ max_definitions) × (length shapes.old ≡ max_definitions) × (length a.old ≡ work_bytes) × (length work.old ≡ work_bytes) × (length filled.old ≡ work_bytes) }
-    ensures { RepliesIn file.now refs.now (held store.now) c m params expr.now result out.old out.new }
+    ensures { RepliesIn file.now refs.now store.now c m params expr.now result out.old out.new }
 {
     if Limits::ARITY < params {
-        return Expanded::Refused(limit_cause(expr), c.fields);
+        return Err(Refusal {
+            cause: limit_cause(expr),
+            place: c.fields,
+        });
     }
     shape_definitions(file, refs, store, c.declarations, c.definitions, shapes);
     expand_shaped(
@@ -159,13 +171,13 @@ fn expand_in(
     params: usize,
     file: &[u8],
     refs: &[u16; Lent::REFS],
-    store: &[u16; Store::LENGTH],
+    store: &Store,
     c: Counts,
     m: usize,
     out: &mut [u8],
-) -> Expanded
+) -> Result<usize, Refusal>
     requires { (m ≤ max_modules) × (length file.now ≤ file_bytes) × (c.definitions ≤ max_definitions) }
-    ensures { RepliesIn file.now refs.now (held store.now) c m params expr.now result out.old out.new }
+    ensures { RepliesIn file.now refs.now store.now c m params expr.now result out.old out.new }
 {
     let mut shapes = [0u32; Limits::DEFINITIONS];
     let mut a = [0u8; WORK_BYTES];
@@ -195,16 +207,19 @@ pub fn expand_reply(
     module: u16,
     file: &[u8],
     refs: &[u16; Lent::REFS],
-    store: &[u16; Store::LENGTH],
+    store: &Store,
     c: Counts,
     out: &mut [u8],
-) -> Expanded
+) -> Result<usize, Refusal>
     requires { (c.modules ≤ max_modules) × (length file.now ≤ file_bytes) × (c.definitions ≤ max_definitions) }
-    ensures { RepliesOf file.now refs.now (held store.now) c «module» params expr.now result out.old out.new }
+    ensures { RepliesOf file.now refs.now store.now c «module» params expr.now result out.old out.new }
 {
     let q = find_module(store, c.modules, module);
     if c.modules <= q {
-        return Expanded::Refused(17, 0);
+        return Err(Refusal {
+            cause: 17,
+            place: 0,
+        });
     }
     expand_in(expr, params as usize, file, refs, store, c, q, out)
 }

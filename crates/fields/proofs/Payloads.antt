@@ -1,43 +1,69 @@
 -- Each way through the code that reads a payload, with the facts that the code has there as premises.
 -- Assumes nothing.
-use mathlib.Core.Path.{◌≡◌}
-use mathlib.Core.Bool.{Bool, true, false}
+use mathlib.Core.Path.{◌≡◌, refl, sym, ◌∙◌}
+use mathlib.Core.Bool.{Bool, true, false, cond, not}
 use mathlib.Core.List.{List}
-use Prim.Native.Nat.{ℕ, zero, suc, ◌+◌, ◌-◌, ◌/◌, ◌%◌, ◌≤◌, ◌<◌}
+use Prim.Native.Nat.{ℕ, zero, suc, ◌+◌, ◌*◌, ◌-◌, ◌/◌, ◌%◌, ◌≤◌, ◌<◌}
 use native.Mathlib.Omega.{arith}
+use lib.Dec.{eqb}
 use lib.ListN.{length, get_or, take, drop}
 use borrow.Author.Tests.{lt-ltb, le-ltb, eq-eqb, ne_eqb}
+use Rattle.std.specs.Bool.{then_some}
+use Rattle.std.specs.Prelude.{Option, None, Some}
 use Rattle.tokens.specs.Token.{number_at}
 use Rattle.tokens.specs.Expr.{whole_of}
 use Rattle.fields.specs.Substitution.{substitutions_fit}
-use Rattle.fields.specs.Payload.{parts_of, module_part, variable_part, extends_part, constant_part, definition_part, instance_part, instance_rest, end_part, assume_part, theorem_part, all_named, lawful_head}
+use Rattle.fields.specs.Payload.{parts_of, module_part, variable_part, extends_part, constant_part, definition_part, instance_part, instance_rest, end_part, sole_name, formula_part, assume_part, theorem_part, all_named, lawful_head}
 use Rattle.fields.specs.declared.Parts.{Parts}
 use Rattle.fields.specs.declared.Parts.TheVariants.{Module, Extends, Constant, Variable, Definition, Instance, EndModule, Assume, Theorem, Cut}
 
 module _ (p : List ℕ) where
-  pub module-there : (n : ℕ) → length p ≡ 2 → n ≡ number_at p 0 → (n ≡ 0 → ⊥) → Module n ≡ module_part p
-  unfolding module_part
-  module-there n l e h = rw (eq-eqb (length p) 2 l, ← e, ne_eqb n 0 h)
+  named : (f : ℕ → Parts) (n : ℕ) → sole_name p ≡ Some n → f n ≡ cond (eqb (length p) 2) (cond (eqb (number_at p 0) 0) Cut (f (number_at p 0))) Cut
+  unfolding sole_name
+  named f n = go (eqb (length p) 2) (eqb (number_at p 0) 0)
+    where
+      go : (a b : Bool) → cond a (cond b None (Some (number_at p 0))) None ≡ Some n → f n ≡ cond a (cond b Cut (f (number_at p 0))) Cut
+      go true false e = let q : number_at p 0 ≡ n = cc in rw q
+      go true true e = absurd (let z : ◌≡◌ {A = ℕ} 0 1 = cc in omega arith)
+      go false b e = absurd (let z : ◌≡◌ {A = ℕ} 0 1 = cc in omega arith)
 
-  pub module-zero : (n : ℕ) → length p ≡ 2 → n ≡ number_at p 0 → n ≡ 0 → Cut ≡ module_part p
-  unfolding module_part
-  module-zero n l e h = rw (eq-eqb (length p) 2 l, ← e, eq-eqb n 0 h)
+  nameless : (f : ℕ → Parts) → sole_name p ≡ None → Cut ≡ cond (eqb (length p) 2) (cond (eqb (number_at p 0) 0) Cut (f (number_at p 0))) Cut
+  unfolding sole_name
+  nameless f = go (eqb (length p) 2) (eqb (number_at p 0) 0)
+    where
+      go : (a b : Bool) → cond a (cond b None (Some (number_at p 0))) None ≡ None → Cut ≡ cond a (cond b Cut (f (number_at p 0))) Cut
+      go true false e = absurd (let z : ◌≡◌ {A = ℕ} 0 1 = cc in omega arith)
+      go true true e = refl
+      go false b e = refl
 
-  pub module-size : (length p ≡ 2 → ⊥) → Cut ≡ module_part p
-  unfolding module_part
-  module-size l = rw (ne_eqb (length p) 2 l)
+  pub name-there : (n : ℕ) (r : Option ℕ) → length p ≡ 2 → n ≡ number_at p 0 → r ≡ then_some (not (eqb n 0)) n → r ≡ sole_name p
+  unfolding sole_name
+  name-there n r l e q = q ∙ rw (eq-eqb (length p) 2 l, ← e) (go (eqb n 0))
+    where
+      go : (b : Bool) → then_some (not b) n ≡ cond b None (Some n)
+      go true = refl
+      go false = refl
 
-  pub variable-there : (n : ℕ) → length p ≡ 2 → n ≡ number_at p 0 → (n ≡ 0 → ⊥) → Variable n ≡ variable_part p
-  unfolding variable_part
-  variable-there n l e h = rw (eq-eqb (length p) 2 l, ← e, ne_eqb n 0 h)
+  pub name-size : (length p ≡ 2 → ⊥) → None ≡ sole_name p
+  unfolding sole_name
+  name-size l = rw (ne_eqb (length p) 2 l)
 
-  pub variable-zero : (n : ℕ) → length p ≡ 2 → n ≡ number_at p 0 → n ≡ 0 → Cut ≡ variable_part p
-  unfolding variable_part
-  variable-zero n l e h = rw (eq-eqb (length p) 2 l, ← e, eq-eqb n 0 h)
+  module _ (o : Option ℕ) (e : o ≡ sole_name p) where
+    pub module-there : (n : ℕ) → o ≡ Some n → Module n ≡ module_part p
+    unfolding module_part
+    module-there n h = named Module n (sym e ∙ h)
 
-  pub variable-size : (length p ≡ 2 → ⊥) → Cut ≡ variable_part p
-  unfolding variable_part
-  variable-size l = rw (ne_eqb (length p) 2 l)
+    pub module-cut : o ≡ None → Cut ≡ module_part p
+    unfolding module_part
+    module-cut h = nameless Module (sym e ∙ h)
+
+    pub variable-there : (n : ℕ) → o ≡ Some n → Variable n ≡ variable_part p
+    unfolding variable_part
+    variable-there n h = named Variable n (sym e ∙ h)
+
+    pub variable-cut : o ≡ None → Cut ≡ variable_part p
+    unfolding variable_part
+    variable-cut h = nameless Variable (sym e ∙ h)
 
   pub constant-there : (n : ℕ) → length p ≡ 3 → n ≡ number_at p 0 → (n ≡ 0 → ⊥) → Constant n (get_or p 2 0) ≡ constant_part p
   unfolding constant_part
@@ -59,38 +85,25 @@ module _ (p : List ℕ) where
   unfolding end_part
   end-size l = rw (ne_eqb (length p) 0 l)
 
-  pub assume-there : (base : ℕ) (w : Bool) → w ≡ whole_of p → w ≡ true → Assume base (length p) ≡ assume_part p base
-  unfolding assume_part
-  assume-there base w e h = rw (← e, h)
-
-  pub assume-cut : (base : ℕ) (w : Bool) → w ≡ whole_of p → w ≡ false → Cut ≡ assume_part p base
-  unfolding assume_part
-  assume-cut base w e h = rw (← e, h)
-
-  pub theorem-there : (base : ℕ) (w : Bool) → w ≡ whole_of p → w ≡ true → Theorem base (length p) ≡ theorem_part p base
-  unfolding theorem_part
-  theorem-there base w e h = rw (← e, h)
-
-  pub theorem-cut : (base : ℕ) (w : Bool) → w ≡ whole_of p → w ≡ false → Cut ≡ theorem_part p base
-  unfolding theorem_part
-  theorem-cut base w e h = rw (← e, h)
-
   -- names
-  pub name-zero : (at left k n : ℕ) → all_named left p at ≡ all_named k p 0 → 0 < left → n ≡ number_at p at → n ≡ 0 → false ≡ all_named k p 0
+  name_first : (left at : ℕ) → 0 < left → all_named left p at ≡ cond (eqb (number_at p at) 0) false (all_named (left - 1) p (at + 2))
   unfolding all_named
-  name-zero at zero k n v l e h = absurd (omega arith)
-  name-zero at (suc left) k n v l e h = rw (← e, h) at v
+  name_first zero at l = absurd (omega arith)
+  name_first (suc left) at l = let d : suc left - 1 ≡ left = omega arith in rw d
 
-  pub name-next : (at left k n : ℕ) → all_named left p at ≡ all_named k p 0 → 0 < left → n ≡ number_at p at → (n ≡ 0 → ⊥)
-      → all_named (left - 1) p (at + 2) ≡ all_named k p 0
-  unfolding all_named
-  name-next at zero k n v l e h = absurd (omega arith)
-  name-next at (suc left) k n v l e h = let d : suc left - 1 ≡ left = omega arith in rw d (rw (← e, ne_eqb n 0 h) at v)
+  module _ (k i : ℕ) (v : all_named (k - i) p (2 * i) ≡ all_named k p 0) where
+    pub name-zero : (n : ℕ) → i < k → n ≡ number_at p (2 * i) → n ≡ 0 → false ≡ all_named k p 0
+    name-zero n l e h = rw (name_first (k - i) (2 * i) (omega arith), ← e, h) at v
 
-  pub name-end : (at left k : ℕ) → all_named left p at ≡ all_named k p 0 → left ≤ 0 → true ≡ all_named k p 0
-  unfolding all_named
-  name-end at zero k v l = v
-  name-end at (suc left) k v l = absurd (omega arith)
+    pub name-next : (n : ℕ) → i < k → n ≡ number_at p (2 * i) → (n ≡ 0 → ⊥) → all_named (k - (i + 1)) p (2 * (i + 1)) ≡ all_named k p 0
+    name-next n l e h =
+        let d : k - (i + 1) ≡ k - i - 1 = omega arith in
+        let a : 2 * (i + 1) ≡ 2 * i + 2 = omega arith in
+        rw (d, a) (rw (name_first (k - i) (2 * i) (omega arith), ← e, ne_eqb n 0 h) at v)
+
+    pub name-end : k ≤ i → true ≡ all_named k p 0
+    unfolding all_named
+    name-end l = let d : k - i ≡ 0 = omega arith in rw d at v
 
   pub extends-none : (base : ℕ) → length p ≡ 0 → Cut ≡ extends_part p base
   unfolding extends_part
@@ -184,12 +197,12 @@ module _ (p : List ℕ) where
   unfolding parts_of
   tag-7 tag base r e q = rw (e, q)
 
-  pub tag-8 : (tag base : ℕ) (r : Parts) → tag ≡ 8 → r ≡ assume_part p base → r ≡ parts_of tag p base
-  unfolding parts_of
+  pub tag-8 : (tag base : ℕ) (r : Parts) → tag ≡ 8 → r ≡ formula_part p (Assume base (length p)) → r ≡ parts_of tag p base
+  unfolding parts_of assume_part
   tag-8 tag base r e q = rw (e, q)
 
-  pub tag-9 : (tag base : ℕ) (r : Parts) → tag ≡ 9 → r ≡ theorem_part p base → r ≡ parts_of tag p base
-  unfolding parts_of
+  pub tag-9 : (tag base : ℕ) (r : Parts) → tag ≡ 9 → r ≡ formula_part p (Theorem base (length p)) → r ≡ parts_of tag p base
+  unfolding parts_of theorem_part
   tag-9 tag base r e q = rw (e, q)
 
   pub tag-other : (tag base : ℕ) → (tag ≡ 1 → ⊥) → (tag ≡ 2 → ⊥) → (tag ≡ 3 → ⊥) → (tag ≡ 4 → ⊥) → (tag ≡ 5 → ⊥) → (tag ≡ 6 → ⊥) → (tag ≡ 7 → ⊥) → (tag ≡ 8 → ⊥) → (tag ≡ 9 → ⊥)

@@ -1,7 +1,7 @@
 -- Each way through the code that reads substitutions, with the facts that the code has there as premises.
 -- Assumes nothing.
 use mathlib.Core.Path.{◌≡◌, sym, ◌∙◌}
-use mathlib.Core.Bool.{Bool, true, false}
+use mathlib.Core.Bool.{Bool, true, false, cond}
 use mathlib.Core.List.{List}
 use Prim.Native.Nat.{ℕ, zero, suc, ◌+◌, ◌-◌, ◌^◌, ◌≤◌, ◌<◌}
 use native.Mathlib.Omega.{arith}
@@ -13,7 +13,7 @@ use borrow.Author.Tests.{lt-ltb, le-ltb, eq-eqb, ne_eqb, ltb-false}
 use Rattle.tokens.specs.Token.{number_at}
 use Rattle.tokens.specs.Expr.{whole_of}
 use Rattle.tokens.proofs.Places.{never, cases}
-use Rattle.fields.specs.Substitution.{substitution_at, substitution_fits, substitutions_fit}
+use Rattle.fields.specs.Substitution.{next_substitution, substitution_at, substitution_fits, substitutions_fit}
 use Rattle.fields.specs.declared.substitutions.Substitution.{Substitution}
 
 module _ (p : List ℕ) where
@@ -59,21 +59,22 @@ module _ (p : List ℕ) where
   pub substitution-there : (at n m : ℕ) → n ≡ number_at p at → m ≡ number_at p (at + 2) → record { name = n; start = at + 4; len = m } ≡ substitution_at p at
   substitution-there at n m e f = rw (e, f)
 
-  pub substitution-bad : (at left k from : ℕ) (b : Bool) → substitutions_fit left p at ≡ substitutions_fit k p from → 0 < left → b ≡ substitution_fits p at → b ≡ false
-      → false ≡ substitutions_fit k p from
+  fits_first : (left at : ℕ) → 0 < left
+      → substitutions_fit left p at ≡ cond (substitution_fits p at) (substitutions_fit (left - 1) p (next_substitution p at)) false
   unfolding substitutions_fit
-  substitution-bad at zero k from b v l e h = absurd (omega arith)
-  substitution-bad at (suc left) k from b v l e h = rw (← e, h) at v
+  fits_first zero at l = absurd (omega arith)
+  fits_first (suc left) at l = let d : suc left - 1 ≡ left = omega arith in rw d
 
-  pub substitution-next : (at left k from : ℕ) (b : Bool) (x : Substitution) → substitutions_fit left p at ≡ substitutions_fit k p from → 0 < left → b ≡ substitution_fits p at → b ≡ true
-      → x ≡ substitution_at p at → substitutions_fit (left - 1) p (x.start + x.len) ≡ substitutions_fit k p from
-  unfolding substitutions_fit
-  substitution-next at zero k from b x v l e h q = absurd (omega arith)
-  substitution-next at (suc left) k from b x v l e h q =
-      let d : suc left - 1 ≡ left = omega arith in
-      rw (d, q) (rw (← e, h) at v)
+  module _ (k from i at : ℕ) (v : substitutions_fit (k - i) p at ≡ substitutions_fit k p from) where
+    pub substitution-bad : (b : Bool) → i < k → b ≡ substitution_fits p at → b ≡ false → false ≡ substitutions_fit k p from
+    substitution-bad b l e h = rw (fits_first (k - i) at (omega arith), ← e, h) at v
 
-  pub substitution-end : (at left k from : ℕ) → substitutions_fit left p at ≡ substitutions_fit k p from → left ≤ 0 → eqb at (length p) ≡ substitutions_fit k p from
-  unfolding substitutions_fit
-  substitution-end at zero k from v l = v
-  substitution-end at (suc left) k from v l = absurd (omega arith)
+    pub substitution-next : (b : Bool) (x : Substitution) → i < k → b ≡ substitution_fits p at → b ≡ true → x ≡ substitution_at p at
+        → substitutions_fit (k - (i + 1)) p (x.start + x.len) ≡ substitutions_fit k p from
+    substitution-next b x l e h q =
+        let d : k - (i + 1) ≡ k - i - 1 = omega arith in
+        rw (d, q) (rw (fits_first (k - i) at (omega arith), ← e, h) at v)
+
+    pub substitution-end : k ≤ i → eqb at (length p) ≡ substitutions_fit k p from
+    unfolding substitutions_fit
+    substitution-end l = let d : k - i ≡ 0 = omega arith in rw d at v

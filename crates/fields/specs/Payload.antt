@@ -1,10 +1,14 @@
 -- The parts of a payload, by its tag. Definitions only.
-use Rattle.std.specs.Prelude.{ℕ, zero, suc, ◌+◌, ◌-◌, ◌/◌, ◌%◌, Bool, true, false, cond, List, ltb, eqb, length, get_or}
+use Rattle.std.specs.Prelude.{ℕ, zero, suc, ◌+◌, ◌-◌, ◌/◌, ◌%◌, Bool, true, false, cond, List, ltb, eqb, length, get_or, Option, None, Some}
 use Rattle.tokens.specs.Token.{number_at}
 use Rattle.tokens.specs.Expr.{whole_of}
 use Rattle.fields.specs.Substitution.{part, substitutions_fit}
 use Rattle.fields.specs.declared.Parts.{Parts}
 use Rattle.fields.specs.declared.Parts.TheVariants.{Module, Extends, Constant, Variable, Definition, Instance, EndModule, Assume, Theorem, Cut}
+
+-- the name that fills a payload
+unfoldable pub sole_name : List ℕ → Option ℕ
+sole_name p = cond (eqb (length p) 2) (cond (eqb (number_at p 0) 0) None (Some (number_at p 0))) None
 
 -- Of a payload p that begins at position `base`: "1 module: name."
 unfoldable pub module_part : List ℕ → Parts
@@ -57,11 +61,14 @@ unfoldable pub end_part : List ℕ → Parts
 end_part p = cond (eqb (length p) 0) EndModule Cut
 
 -- "8 ASSUME, 9 THEOREM: an expression."
+abbrev pub formula_part : List ℕ → Parts → Parts
+formula_part p x = cond (whole_of p) x Cut
+
 unfoldable pub assume_part : List ℕ → ℕ → Parts
-assume_part p base = cond (whole_of p) (Assume base (length p)) Cut
+assume_part p base = formula_part p (Assume base (length p))
 
 unfoldable pub theorem_part : List ℕ → ℕ → Parts
-theorem_part p base = cond (whole_of p) (Theorem base (length p)) Cut
+theorem_part p base = formula_part p (Theorem base (length p))
 
 -- "The tag is one of nine"
 unfoldable pub parts_of : ℕ → List ℕ → ℕ → Parts

@@ -122,36 +122,12 @@ impl Cursor {
 pub fn is_cut(x: Parts) -> bool
     ensures { result ≡ is_cut x }
 {
-    match x {
-        Parts::Module(_) => false,
-        Parts::Extends(_, _) => false,
-        Parts::Constant(_, _) => false,
-        Parts::Variable(_) => false,
-        Parts::Definition(_, _, _, _) => false,
-        Parts::Instance(_, _, _, _, _) => false,
-        Parts::EndModule => false,
-        Parts::Assume(_, _) => false,
-        Parts::Theorem(_, _) => false,
-        Parts::Cut => true,
-        Parts::EndOfFile => false,
-    }
+    matches!(x, Parts::Cut)
 }
 
 // Whether no bytes are left.
 pub fn is_end(x: Parts) -> bool
     ensures { result ≡ is_end x }
 {
-    match x {
-        Parts::Module(_) => false,
-        Parts::Extends(_, _) => false,
-        Parts::Constant(_, _) => false,
-        Parts::Variable(_) => false,
-        Parts::Definition(_, _, _, _) => false,
-        Parts::Instance(_, _, _, _, _) => false,
-        Parts::EndModule => false,
-        Parts::Assume(_, _) => false,
-        Parts::Theorem(_, _) => false,
-        Parts::Cut => false,
-        Parts::EndOfFile => true,
-    }
+    matches!(x, Parts::EndOfFile)
 }

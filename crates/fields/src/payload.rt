@@ -1,6 +1,6 @@
 // The payload of a field, by its tag: the payload is a slice p of the file that begins at position `base`.
 ghost use Rattle.std.specs.Prelude.{◌≡◌, ◌+◌, ◌≤◌, ◌<◌, ◌^◌, ◌/◌, length};
-ghost use Rattle.fields.specs.Payload.{parts_of, module_part, variable_part, extends_part, constant_part, definition_part, instance_part, instance_rest, end_part, assume_part, theorem_part, all_named, lawful_head};
+ghost use Rattle.fields.specs.Payload.{parts_of, module_part, variable_part, extends_part, constant_part, definition_part, instance_part, instance_rest, end_part, sole_name, formula_part, all_named, lawful_head};
 
 use super::Parts;
 use super::substitutions::substitutions_fit;
@@ -18,35 +18,39 @@ pub fn parts_of(tag: u8, p: &[u8], base: usize) -> Parts
         5 => definition_parts(p, base),
         6 => instance_parts(p, base),
         7 => end_parts(p),
-        8 => assume_parts(p, base),
-        9 => theorem_parts(p, base),
+        8 => formula_parts(p, Parts::Assume(base, p.len())),
+        9 => formula_parts(p, Parts::Theorem(base, p.len())),
         _ => Parts::Cut,
+    }
+}
+
+// The name that fills a payload.
+fn sole_name(p: &[u8]) -> Option<u16>
+    ensures { result ≡ sole_name p.now }
+{
+    if p.len() == 2 {
+        let n = tokens::number_at(p, 0);
+        (n != 0).then_some(n)
+    } else {
+        None
     }
 }
 
 fn module_parts(p: &[u8]) -> Parts
     ensures { result ≡ module_part p.now }
 {
-    if p.len() == 2 {
-        let n = tokens::number_at(p, 0);
-        if n == 0 { Parts::Cut } else { Parts::Module(n) }
-    } else {
-        Parts::Cut
+    match sole_name(p) {
+        Some(n) => Parts::Module(n),
+        None => Parts::Cut,
     }
 }
 
 fn variable_parts(p: &[u8]) -> Parts
     ensures { result ≡ variable_part p.now }
 {
-    if p.len() == 2 {
-        let n = tokens::number_at(p, 0);
-        if n == 0 {
-            Parts::Cut
-        } else {
-            Parts::Variable(n)
-        }
-    } else {
-        Parts::Cut
+    match sole_name(p) {
+        Some(n) => Parts::Variable(n),
+        None => Parts::Cut,
     }
 }
 
@@ -70,14 +74,10 @@ fn all_named(p: &[u8], k: usize) -> bool
     requires { k ≤ length p.now / 2 }
     ensures { result ≡ all_named k p.now 0 }
 {
-    let mut i: usize = 0;
-    let mut left = k;
-    while 0 < left {
-        if tokens::number_at(p, i) == 0 {
+    for i in 0..k {
+        if tokens::number_at(p, 2 * i) == 0 {
             return false;
         }
-        i += 2;
-        left -= 1;
     }
     true
 }
@@ -166,22 +166,9 @@ fn end_parts(p: &[u8]) -> Parts
     }
 }
 
-fn assume_parts(p: &[u8], base: usize) -> Parts
-    ensures { result ≡ assume_part p.now base }
+// The parts, if an expression fills the payload.
+fn formula_parts(p: &[u8], parts: Parts) -> Parts
+    ensures { result ≡ formula_part p.now parts }
 {
-    if tokens::whole(p) {
-        Parts::Assume(base, p.len())
-    } else {
-        Parts::Cut
-    }
-}
-
-fn theorem_parts(p: &[u8], base: usize) -> Parts
-    ensures { result ≡ theorem_part p.now base }
-{
-    if tokens::whole(p) {
-        Parts::Theorem(base, p.len())
-    } else {
-        Parts::Cut
-    }
+    if tokens::whole(p) { parts } else { Parts::Cut }
 }

@@ -48,15 +48,12 @@ pub fn substitutions_fit(p: &[u8], from: usize, count: u8) -> bool
     ensures { result ≡ substitutions_fit count p.now from }
 {
     let mut at = from;
-    let mut left = count as usize;
-    while 0 < left {
-        if substitution_fits(p, at) {
-            let x = substitution_at(p, at);
-            at = x.start + x.len;
-            left -= 1;
-        } else {
+    for _i in 0..count {
+        if !substitution_fits(p, at) {
             return false;
         }
+        let x = substitution_at(p, at);
+        at = x.start + x.len;
     }
     at == p.len()
 }

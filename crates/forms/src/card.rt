@@ -34,11 +34,9 @@ fn add_pairs(form: u64, j: usize, before: u32) -> u32
     ensures { Paired (level_at form) j before result }
 {
     let mut pairs = before;
-    let mut i: usize = 0;
-    while i < j {
+    for i in 0..j {
         let b = clashes(form, i, j);
         pairs = with_bit(pairs, pair_bit(i, j), b);
-        i += 1;
     }
     pairs
 }
@@ -51,13 +49,11 @@ pub fn card_of(form: u64, n: usize) -> Card
     let mut masks = [0u8; Limits::ARITY];
     let mut weights: u32 = 0;
     let mut pairs: u32 = 0;
-    let mut i: usize = 0;
-    while i < n {
+    for i in 0..n {
         masks[i] = mask_of(form, i);
         let b = weighs(form, i);
         weights = with_bit(weights, i as u32, b);
         pairs = add_pairs(form, i, pairs);
-        i += 1;
     }
     Card {
         params: n as u8,
@@ -98,10 +94,8 @@ fn put(card: Card, out: &mut [u8], at: usize)
     requires { at + card_bytes ≤ length out.old }
     ensures { out.new ≡ paste out.old at (laid_out card) card_bytes }
 {
-    let mut k: usize = 0;
-    while k < Limits::CARD_BYTES {
+    for k in 0..Limits::CARD_BYTES {
         out[at + k] = byte_of(card, k);
-        k += 1;
     }
 }
 

@@ -40,13 +40,10 @@ pub fn level(form: u64, v: &[u8]) -> u8
 {
     let mut b = (form % 8) as u8;
     let mut left = form / 8;
-    let mut i: usize = 0;
-    while i < v.len() {
-        let x = bits_of(v[i]);
-        let y = crate::level_under((left % 8) as u8, x);
-        b = b | y;
-        left = left / 8;
-        i += 1;
+    for l in v {
+        let x = bits_of(*l);
+        b |= crate::level_under((left % 8) as u8, x);
+        left /= 8;
     }
     level_of(b)
 }

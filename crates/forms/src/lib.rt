@@ -92,12 +92,10 @@ pub fn add_params(form: u64, l: u8, labels: u64, from: usize, k: usize) -> Led
 {
     let mut f = form;
     let mut left = labels;
-    let mut i: usize = 0;
-    while i < k {
+    for i in 0..k {
         let m = label_after(l, (left % 8) as u8);
         f = add_param(f, m, from + i);
         left = left / 8;
-        i += 1;
     }
     Led {
         form: f,
@@ -111,9 +109,7 @@ pub fn declared_form(k: usize) -> u64
     ensures { Gives result (λ v. highest (param_levels 0 k v)) }
 {
     let mut form: u64 = 0;
-    let mut i = k;
-    while 0 < i {
-        i -= 1;
+    for i in (0..k).rev() {
         form = add_param(form, Form::PLAIN, i);
     }
     form

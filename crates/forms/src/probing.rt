@@ -60,11 +60,9 @@ pub fn mask_of(form: u64, i: usize) -> u8
     ensures { (n : ℕ) → i < n → result ≡ mask_of n (level_at form) i }
 {
     let mut mask: u32 = 0;
-    let mut bit: usize = 0;
-    while bit < Limits::LEVELS {
+    for bit in 0..Limits::LEVELS {
         let b = takes(form, i, bit as u8);
         mask = with_bit(mask, bit as u32, b);
-        bit += 1;
     }
     mask as u8
 }
@@ -86,12 +84,10 @@ pub fn weighs(form: u64, i: usize) -> bool
     requires { i < max_arity }
     ensures { (n : ℕ) → i < n → result ≡ weighs n (level_at form) i }
 {
-    let mut l: usize = 0;
-    while l < Limits::LEVELS {
+    for l in 0..Limits::LEVELS {
         if raises(form, i, l as u8) {
             return true;
         }
-        l += 1;
     }
     false
 }

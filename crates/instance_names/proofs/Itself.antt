@@ -23,15 +23,16 @@ use Rattle.texts.specs.Text.{Declarations, no_declaration, ref_head}
 use Rattle.context.specs.Holds.{Holds}
 use Rattle.context.specs.Lookup.{is_declared}
 use Rattle.context.specs.Entries.{codes_of, variable_kind}
-use Rattle.store.specs.Store.{Store, kind_at}
+use Rattle.store.specs.Store.{kind_at}
+use Rattle.store.specs.declared.Store.{Store}
 use Rattle.context.specs.declared.Counts.{Counts}
 use Rattle.context.proofs.Judging.{any-declared-law, any-each, kind_of}
 use Rattle.context.proofs.Lookups.{current-no}
 use Rattle.resolve.specs.Look.{look_in}
 use Rattle.resolve.specs.Meaning.{Means, head_arity}
-use Rattle.resolve.specs.Walk.{is_no_ref, wrong_count}
+use Rattle.resolve.specs.Walk.{wrong_count}
+use Rattle.std.specs.Prelude.{Option as Answer, Some, None, is_none}
 use Rattle.resolve.specs.declared.Look.{Look}
-use Rattle.resolve.specs.declared.Look.TheVariants.{Ref, NoRef}
 use Rattle.resolve.proofs.Law.{name-law}
 use Rattle.resolve.proofs.Numbers.{Declares, declarations_of}
 use Rattle.entering.specs.Written.{written_at}
@@ -65,13 +66,13 @@ module _ (s : State) (decls : Declarations) where
       go true = refl
       go false = refl
 
-  none-known : (l : Look) (h : Option Head) → Means s decls l h → is_no_ref l ≡ not (is_some h)
-  none-known (Ref r k) h (e, q) = sym (ap (λ (x : Option Head). not (is_some x)) e)
-  none-known NoRef h e = sym (ap (λ (x : Option Head). not (is_some x)) e)
+  none-known : (l : Answer Look) (h : Option Head) → Means s decls l h → is_none l ≡ not (is_some h)
+  none-known (Some l) h (e, q) = sym (ap (λ (x : Option Head). not (is_some x)) e)
+  none-known None h e = sym (ap (λ (x : Option Head). not (is_some x)) e)
 
-  counts-differ : (a : ℕ) (l : Look) (h : Option Head) → Means s decls l h → wrong_count a l ≡ miscounted_head s h a
-  counts-differ a (Ref r k) h (e, q) = ap (λ (n : ℕ). not (eqb a n)) q ∙ counted-ref a r ∙ ap (λ (x : Option Head). miscounted_head s x a) (sym e)
-  counts-differ a NoRef h e = ap (λ (x : Option Head). miscounted_head s x a) (sym e)
+  counts-differ : (a : ℕ) (l : Answer Look) (h : Option Head) → Means s decls l h → wrong_count a l ≡ miscounted_head s h a
+  counts-differ a (Some l) h (e, q) = ap (λ (n : ℕ). not (eqb a n)) q ∙ counted-ref a l.number ∙ ap (λ (x : Option Head). miscounted_head s x a) (sym e)
+  counts-differ a None h e = ap (λ (x : Option Head). miscounted_head s x a) (sym e)
 
 module _ (v : Store) (c : Counts) (s : State) (holds : Holds v c s) (fs : List Field) (declares : Declares v.facts c fs) (origins : Origins fs s) (good : Good s)
     (p m k at : ℕ) (file : List ℕ) (end : ℕ) (whole : end ≤ length file) (ss : List Substitution) (count : length ss ≡ k) (there : SubstitutionsAt file at end ss) where
@@ -91,7 +92,7 @@ module _ (v : Store) (c : Counts) (s : State) (holds : Holds v c s) (fs : List F
   unfolding implied_unknown stands
   unknown-code o =
       let n = get_or v.names o 0 in
-      and_assoc (is_declared v.facts o) (not (is_written (written_at k file at n))) (is_no_ref (look_in v.names v.facts (codes_of v c.modules) (Name n 0)))
+      and_assoc (is_declared v.facts o) (not (is_written (written_at k file at n))) (is_none (look_in v.names v.facts (codes_of v c.modules) (Name n 0)))
       ∙ ap₂ (λ (a b : Bool). is_declared v.facts o && (a && b)) (by_itself n) (none-known s (declarations_of fs) (look_in v.names v.facts (codes_of v c.modules) (Name n 0)) (operator_named (here s) n) (meaning n))
 
   miscounted-code : (o : ℕ)

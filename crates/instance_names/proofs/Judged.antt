@@ -2,7 +2,6 @@
 use borrow.Author.Tests.{leb-false, lt-ltb, ltb-true}
 use mathlib.Core.Bool.{◌||◌, false, true}
 use mathlib.Core.List.{List, [], ◌∷◌}
-use mathlib.Core.Option.{none}
 use mathlib.Core.Path.{◌∙◌, ◌≡◌, ap, ap₂, refl, subst, sym}
 use Prim.Native.Nat.{ℕ, ◌+◌, ◌≤◌, ◌<◌}
 use native.Mathlib.Omega.{arith}
@@ -26,7 +25,8 @@ use Rattle.agree.specs.Parts.{SubstitutionsAt}
 use Rattle.agree.proofs.Positions.{length_part}
 use Rattle.context.specs.Parts.{part as part', place_of}
 use Rattle.context.specs.Entries.{codes_of}
-use Rattle.store.specs.Store.{Store}
+use Rattle.store.specs.declared.Store.{Store}
+use Rattle.store.specs.declared.Facts.{Facts}
 use Rattle.context.specs.declared.Counts.{Counts}
 use Rattle.resolve.proofs.Numbers.{declarations_of}
 use Rattle.entering.specs.Written.{written_at}
@@ -64,7 +64,7 @@ behind : (n p m : ℕ) (ss : List Substitution) → length (write_field (instanc
 behind n p m ss = omega arith
 
 -- where none of the first causes holds the module instanced is one
-pub source-below : (file names facts contexts orders heads : List ℕ) (phase : Phase) (definitions : ℕ) (x : Site) (n cause : ℕ)
+pub source-below : (file names : List ℕ) (facts : List Facts) (contexts orders heads : List ℕ) (phase : Phase) (definitions : ℕ) (x : Site) (n cause : ℕ)
     → cause ≡ first_number (first_causes file names facts contexts orders heads phase definitions x n) → cause ≡ 0 → x.source < x.modules
 unfolding first_causes
 source-below file names facts contexts orders heads phase definitions x n cause e z =

@@ -3,7 +3,7 @@ use borrow.Author.Tests.{le-leb, le-ltb, lt-leb, lt-ltb}
 use mathlib.Core.Bool.{Bool, ◌||◌, false, or_assoc, or-false, true}
 use mathlib.Core.List.{List, [], ◌∷◌}
 use mathlib.Core.Path.{◌∙◌, ◌≡◌, ap, refl, subst, sym}
-use Prim.Native.Nat.{ℕ, zero, suc, ◌+◌, ◌-◌, ◌≤◌, ◌<◌}
+use Prim.Native.Nat.{ℕ, suc, ◌+◌, ◌-◌, ◌≤◌, ◌<◌}
 use native.Mathlib.Omega.{arith}
 use lib.ListN.{length}
 use Rattle.limits.specs.Limits.{max_nesting}
@@ -17,8 +17,9 @@ use Rattle.instance_names.specs.Causes.{NameCauses, first_causes, first_number, 
 use Rattle.instance_names.specs.Looking.{LooksEach, LooksOne}
 use Rattle.instance_names.specs.Sites.{miscounted_among, unknown_among, arity_there, clashes_at, next_start, over_limits, repeated_from, starts, undeclared_in}
 use Rattle.instance_names.specs.declared.Site.{Site}
+use Rattle.store.specs.declared.Facts.{Facts}
 
-module _ (file names facts contexts heads : List ℕ) (x : Site) where
+module _ (file names : List ℕ) (facts : List Facts) (contexts heads : List ℕ) (x : Site) where
   pub look_one : (at n k p y : ℕ) (refs refs' : List ℕ) (u w : Bool) → n ≡ number_at file at → k ≡ arity_there names facts contexts heads x n → p ≡ x.params + k
       → Looks names facts (context_codes contexts heads x.modules) p 0 (expr_at max_nesting file (at + 4)) refs refs' u w y
       → LooksOne file names facts contexts heads x at refs refs' u w y
@@ -32,8 +33,8 @@ module _ (file names facts contexts heads : List ℕ) (x : Site) where
     pub finish : (refs₂ : List ℕ) (u₂ w₂ : Bool) → LooksEach file names facts contexts heads x (starts left file at) refs refs₂ u₂ w₂
         → LooksEach file names facts contexts heads x (starts x.count file x.at) refs₀ refs₂ (u || u₂) (w || w₂)
 
-  pub look-start : (refs : List ℕ) → Looked refs refs x.at x.count false false
-  look-start refs = record { finish = λ refs₂ u₂ w₂ h. h }
+  pub look-start : (refs : List ℕ) → Looked refs refs x.at (x.count - 0) false false
+  look-start refs = let d : x.count - 0 ≡ x.count = omega arith in rw d (record { finish = λ refs₂ u₂ w₂ h. h })
 
   ended : (refs₀ refs : List ℕ) (at left : ℕ) (u w : Bool) → Looked refs₀ refs at left u w → starts left file at ≡ []
       → LooksEach file names facts contexts heads x (starts x.count file x.at) refs₀ refs u w
@@ -44,26 +45,24 @@ module _ (file names facts contexts heads : List ℕ) (x : Site) where
       subst (λ (b : Bool). LooksEach file names facts contexts heads x (starts x.count file x.at) refs₀ refs u b) (or-false w)
       (subst (λ (b : Bool). LooksEach file names facts contexts heads x (starts x.count file x.at) refs₀ refs b (w || false)) (or-false u) all)
 
-  module _ (refs₀ refs : List ℕ) (at left : ℕ) (u w : Bool) (so : Looked refs₀ refs at left u w) where
-    pub look-end : left ≤ 0 → LooksEach file names facts contexts heads x (starts x.count file x.at) refs₀ refs u w
+  module _ (refs₀ refs : List ℕ) (at i : ℕ) (u w : Bool) (so : Looked refs₀ refs at (x.count - i) u w) where
+    pub look-end : x.count ≤ i → LooksEach file names facts contexts heads x (starts x.count file x.at) refs₀ refs u w
     unfolding starts
-    look-end h = ended refs₀ refs at left u w so (let d : left ≡ 0 = omega arith in rw d refl)
+    look-end h = ended refs₀ refs at (x.count - i) u w so (let d : x.count - i ≡ 0 = omega arith in rw d refl)
 
-    pub look-past : 0 < left → length file < at → LooksEach file names facts contexts heads x (starts x.count file x.at) refs₀ refs u w
+    pub look-past : i < x.count → length file < at → LooksEach file names facts contexts heads x (starts x.count file x.at) refs₀ refs u w
     unfolding starts
-    look-past h p = ended refs₀ refs at left u w so (go left h)
-      where
-        go : (k : ℕ) → 0 < k → starts k file at ≡ []
-        go zero l = absurd (omega arith)
-        go (suc k) l = rw (lt-ltb (length file) at p)
+    look-past h p =
+        let d : x.count - i ≡ suc (x.count - (i + 1)) = omega arith in
+        ended refs₀ refs at (x.count - i) u w so (rw (d, lt-ltb (length file) at p))
 
-    pub look-turn : (refs₁ : List ℕ) (u₁ w₁ u' w' : Bool) (y next : ℕ) → 0 < left → at ≤ length file → LooksOne file names facts contexts heads x at refs refs₁ u₁ w₁ y
-        → u' ≡ (u || u₁) → w' ≡ (w || w₁) → next ≡ next_start file at → Looked refs₀ refs₁ next (left - 1) u' w'
+    pub look-turn : (refs₁ : List ℕ) (u₁ w₁ u' w' : Bool) (y next : ℕ) → i < x.count → at ≤ length file → LooksOne file names facts contexts heads x at refs refs₁ u₁ w₁ y
+        → u' ≡ (u || u₁) → w' ≡ (w || w₁) → next ≡ next_start file at → Looked refs₀ refs₁ next (x.count - (i + 1)) u' w'
     unfolding LooksEach starts
     look-turn refs₁ u₁ w₁ u' w' y next h p one e f g = record {
       finish = λ refs₂ u₂ w₂ rest.
           let all = so.finish refs₂ (u₁ || u₂) (w₁ || w₂)
-          (subst (λ (l : List ℕ). LooksEach file names facts contexts heads x l refs refs₂ (u₁ || u₂) (w₁ || w₂)) (sym (turn left h))
+          (subst (λ (l : List ℕ). LooksEach file names facts contexts heads x l refs refs₂ (u₁ || u₂) (w₁ || w₂)) (sym turn)
           (record { between = refs₁; y = y; u₁ = u₁; w₁ = w₁; u₂ = u₂; w₂ = w₂; one = one; rest = rest; unknown = refl; miscounted = refl })) in
           subst (λ (b : Bool). LooksEach file names facts contexts heads x (starts x.count file x.at) refs₀ refs₂ (u' || u₂) b)
           (sym (or_assoc w w₁ w₂) ∙ ap (λ (b : Bool). b || w₂) (sym f))
@@ -71,12 +70,11 @@ module _ (file names facts contexts heads : List ℕ) (x : Site) where
           (sym (or_assoc u u₁ u₂) ∙ ap (λ (b : Bool). b || u₂) (sym e)) all);
     }
       where
-        turn : (k : ℕ) → 0 < k → starts k file at ≡ at ∷ starts (k - 1) file next
-        turn zero l = absurd (omega arith)
-        turn (suc k) l = let d : suc k - 1 ≡ k = omega arith in rw (le-ltb (length file) at p, d, g)
+        turn : starts (x.count - i) file at ≡ at ∷ starts (x.count - (i + 1)) file next
+        turn = let d : x.count - i ≡ suc (x.count - (i + 1)) = omega arith in rw (d, le-ltb (length file) at p, g)
 
 -- 4, 5, 7, 8
-module _ (file names facts contexts orders heads : List ℕ) (phase : Phase) (definitions : ℕ) (x : Site) (n : ℕ) (a : Bool) (first : a ≡ early phase 6) where
+module _ (file names : List ℕ) (facts : List Facts) (contexts orders heads : List ℕ) (phase : Phase) (definitions : ℕ) (x : Site) (n : ℕ) (a : Bool) (first : a ≡ early phase 6) where
   pub cause-4 : a ≡ true → 4 ≡ first_number (first_causes file names facts contexts orders heads phase definitions x n)
   unfolding first_causes
   cause-4 h = rw (← first, h)
@@ -99,21 +97,8 @@ module _ (file names facts contexts orders heads : List ℕ) (phase : Phase) (de
       unfolding first_causes
       cause-none h = rw (← first, in_order, ← second, kept, lt-leb x.modules x.source ended, ← third, h)
 
--- a test of two
-pub or-first : (a b : Bool) → a ≡ true → true ≡ (a || b)
-or-first a b h = rw h refl
-
-pub or-second : (a b r : Bool) → a ≡ false → r ≡ b → r ≡ (a || b)
-or-second a b r h e = rw (h, e) refl
-
-pub either_first : (a b d : Bool) → d ≡ a → d ≡ true → true ≡ (a || b)
-either_first a b d e h = rw (← e, h) refl
-
-pub either_second : (a b d r : Bool) → d ≡ a → d ≡ false → r ≡ b → r ≡ (a || b)
-either_second a b d r e h f = rw (← e, h, f) refl
-
 -- 9, 10, 11
-module _ (file names facts contexts heads : List ℕ) (x : Site) (refs refs' : List ℕ) (u w : Bool)
+module _ (file names : List ℕ) (facts : List Facts) (contexts heads : List ℕ) (x : Site) (refs refs' : List ℕ) (u w : Bool)
     (looks : LooksEach file names facts contexts heads x (starts x.count file x.at) refs refs' u w) (a : Bool)
     (first : a ≡ (u || unknown_among file names facts contexts heads x (context_codes contexts heads x.source))) where
   caused : (r : ℕ) → r ≡ first_number (name_causes file names facts contexts heads x u w) → NameCauses file names facts contexts heads x refs refs' r

@@ -15,10 +15,11 @@ use Rattle.rules.specs.State.{Module, State, module_named, no_module}
 use Rattle.context.specs.Holds.{Holds, module_no}
 use Rattle.context.specs.Lookup.{as_code, declared_named, operator_in}
 use Rattle.context.specs.Entries.{codes_of}
-use Rattle.store.specs.Store.{Store}
+use Rattle.store.specs.declared.Store.{Store}
 use Rattle.context.specs.declared.Counts.{Counts}
+use Rattle.std.specs.Prelude.{Option as Answer, Some, None}
 use Rattle.context.specs.declared.Operator.{Operator}
-use Rattle.context.specs.declared.Operator.TheVariants.{Constant, Variable, Defined, Unknown}
+use Rattle.context.specs.declared.Operator.TheVariants.{Constant, Variable, Defined}
 use Rattle.context.proofs.Extends.{source-law}
 use Rattle.context.proofs.Judging.{arity-law, clash-law, here-law, kind-law, kind_answered}
 use Rattle.judge_plain.proofs.Lifted.{ended-law}
@@ -26,19 +27,19 @@ use Rattle.instance_names.specs.Causes.{site}
 use Rattle.instance_names.specs.Sites.{answered_arity, answered_some, arity_there, clashes_at, is_ended}
 use Rattle.instance_names.specs.declared.Site.{Site}
 
-answered-arity : (o : Operator) → answered_arity o ≡ or_else 0 (map_option kind_arity (kind_answered o))
+answered-arity : (o : Answer Operator) → answered_arity o ≡ or_else 0 (map_option kind_arity (kind_answered o))
 unfolding answered_arity
-answered-arity (Constant o k) = refl
-answered-arity (Variable o) = refl
-answered-arity (Defined g) = refl
-answered-arity Unknown = refl
+answered-arity (Some (Constant o k)) = refl
+answered-arity (Some (Variable o)) = refl
+answered-arity (Some (Defined g)) = refl
+answered-arity None = refl
 
-pub answered-some : (o : Operator) → answered_some o ≡ is_some (kind_answered o)
+pub answered-some : (o : Answer Operator) → answered_some o ≡ is_some (kind_answered o)
 unfolding answered_some
-answered-some (Constant o k) = refl
-answered-some (Variable o) = refl
-answered-some (Defined g) = refl
-answered-some Unknown = refl
+answered-some (Some (Constant o k)) = refl
+answered-some (Some (Variable o)) = refl
+answered-some (Some (Defined g)) = refl
+answered-some None = refl
 
 pub at_most : (a b : ℕ) → leb a b ≡ not (ltb b a)
 at_most a b = go (ltb b a) refl

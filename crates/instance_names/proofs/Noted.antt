@@ -28,13 +28,13 @@ use Rattle.texts.proofs.Noting.{AgreeFrom, shown-same}
 use Rattle.texts.proofs.Spans.{Span, SpanOf, span-found}
 use Rattle.context.specs.Holds.{Holds}
 use Rattle.context.specs.Entries.{codes_of}
-use Rattle.store.specs.Store.{Store}
+use Rattle.store.specs.declared.Store.{Store}
 use Rattle.context.specs.declared.Counts.{Counts}
 use Rattle.resolve.specs.Walk.{Looks}
 use Rattle.resolve.proofs.Law.{Right}
 use Rattle.resolve.proofs.Numbers.{Declares, declarations_of}
 use Rattle.entering.specs.Written.{written_at}
-use Rattle.entering.specs.declared.written.Writing.TheVariants.{Written}
+use Rattle.std.specs.Prelude.{Some}
 use Rattle.standing.specs.Shown.{TextShown}
 use Rattle.instance_names.specs.Causes.{site}
 use Rattle.instance_names.specs.Looking.{LooksEach, LooksOne, LooksThen}
@@ -116,7 +116,7 @@ module _ (v : Store) (c : Counts) (s : State) (holds : Holds v c s) (fs : List F
       rw (in-file file end whole at y stands) (go (eqb n y.0) (eqb-turned n (number_at file at) (eqb n y.0) (ap (eqb n) stands.name)))
     where
       go : (b : Bool) → eqb (number_at file at) n ≡ b
-          → Agrees file refs decls end s (cond (eqb (number_at file at) n) (Written (at + 4)) (written_at (length ss) file (next_substitution file at) n))
+          → Agrees file refs decls end s (cond (eqb (number_at file at) n) (Some (at + 4)) (written_at (length ss) file (next_substitution file at) n))
           (map_option (λ s. s.1) (cond b (some y) (find (λ (s : Substitution). eqb n s.0) ss)))
       go true e = rw e text
       go false e = rw e rest

@@ -7,6 +7,7 @@ use Prim.Native.Nat.{ℕ, ◌+◌, ◌≤◌, ◌<◌}
 use native.Mathlib.Omega.{arith}
 use lib.Dec.{ltb}
 use lib.ListN.{get_or, length}
+use Rattle.std.specs.Prelude.{None, Some, is_none}
 use Rattle.limits.specs.Limits.{max_arity, max_definitions, max_nesting}
 use Rattle.theory.specs.Lists.{All, any}
 use Rattle.rules.specs.Expression.{over_arity, over_limit}
@@ -18,18 +19,18 @@ use Rattle.laws.proofs.Invariant.{Good}
 use Rattle.tokens.specs.Expr.{expr_at}
 use Rattle.tokens.specs.Limit.{kept_of, limit_at}
 use Rattle.tokens.specs.Token.{number_at}
-use Rattle.tokens.specs.declared.Limit.TheVariants.{Kept, Passed}
 use Rattle.tokens.proofs.Nesting.{limited}
 use Rattle.agree.specs.Parts.{SubstitutionsAt}
 use Rattle.agree.proofs.Limits.{limits-agree}
 use Rattle.context.specs.Holds.{Holds, module_no}
 use Rattle.context.specs.Entries.{order_of}
-use Rattle.store.specs.Store.{Store, order_slot}
+use Rattle.store.specs.Store.{order_slot}
+use Rattle.store.specs.declared.Store.{Store}
 use Rattle.context.specs.declared.Counts.{Counts}
 use Rattle.context.proofs.Room.{count_law, order-law, params-law}
 use Rattle.judge_plain.proofs.Premises.{good-listed}
 use Rattle.instance_names.specs.Causes.{site}
-use Rattle.instance_names.specs.Sites.{definition_over, definitions_over, is_ended, is_passed, module_over, over_limits, substitution_over, substitutions_over}
+use Rattle.instance_names.specs.Sites.{definition_over, definitions_over, is_ended, module_over, over_limits, substitution_over, substitutions_over}
 use Rattle.instance_names.specs.declared.Site.{Site}
 use Rattle.instance_names.proofs.Modules.{arity-there, module-absent, module-there}
 use Rattle.instance_names.proofs.Starts.{Stands, any-starts}
@@ -43,7 +44,7 @@ all_from : {A : Type 0} (P Q : A → Type 0) → ((a : A) → P a → Q a) → (
 all_from P Q f [] h = tt
 all_from P Q f (x ∷ xs) h = (f x h.0, all_from P Q f xs h.1)
 
-passed-cond : (b : Bool) (e : ℕ) → is_passed (cond b Passed (Kept e)) ≡ b
+passed-cond : (b : Bool) (e : ℕ) → is_none (cond b None (Some e)) ≡ b
 passed-cond true e = refl
 passed-cond false e = refl
 
@@ -56,10 +57,10 @@ in_order false false true b = refl
 in_order false false false b = refl
 
 -- the limits of the expression of a substitution
-pub limit-law : (file : List ℕ) (end : ℕ) → end ≤ length file → (at : ℕ) (y : Substitution) → Stands file end at y → is_passed (limit_at file (at + 4)) ≡ over_limit y.1
+pub limit-law : (file : List ℕ) (end : ℕ) → end ≤ length file → (at : ℕ) (y : Substitution) → Stands file end at y → is_none (limit_at file (at + 4)) ≡ over_limit y.1
 limit-law file end whole at y h =
     let l = number_at file (at + 2) in
-    ap is_passed (sym (limited file (at + 4) (kept_of (expr_at max_nesting file (at + 4))) refl)
+    ap is_none (sym (limited file (at + 4) (kept_of (expr_at max_nesting file (at + 4))) refl)
     ∙ limits-agree file (at + 4) l y.1 (omega (arith, h.room)) h.read)
     ∙ passed-cond (over_limit y.1) (at + 4 + l)
 

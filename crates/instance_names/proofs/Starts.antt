@@ -16,7 +16,7 @@ use Rattle.tokens.specs.Token.{number_at}
 use Rattle.fields.specs.Substitution.{next_substitution, part}
 use Rattle.agree.specs.Parts.{SubstitutionsAt}
 use Rattle.entering.specs.Written.{written_at}
-use Rattle.entering.specs.declared.written.Writing.TheVariants.{Written}
+use Rattle.std.specs.Prelude.{Some}
 use Rattle.instance_names.specs.Sites.{is_written, next_start, repeated_from, starts}
 
 -- a substitution stands at a position
@@ -61,7 +61,7 @@ module _ (file : List ℕ) (end : ℕ) (whole : end ≤ length file) where
       rw (in-file at y (record { name = e; read = q; room = r })) (go (eqb n y.0) (eqb-turned n (number_at file at) (eqb n y.0) (ap (eqb n) e)) (written-some n ss (next_substitution file at) h))
     where
       go : (b : Bool) → eqb (number_at file at) n ≡ b → is_written (written_at (length ss) file (next_substitution file at) n) ≡ is_some (substitution_for ss n)
-          → is_written (cond (eqb (number_at file at) n) (Written (at + 4)) (written_at (length ss) file (next_substitution file at) n))
+          → is_written (cond (eqb (number_at file at) n) (Some (at + 4)) (written_at (length ss) file (next_substitution file at) n))
           ≡ is_some (map_option (λ s. s.1) (cond b (some y) (find (λ (s : Substitution). eqb n s.0) ss)))
       go true p below = rw p refl
       go false p below = rw p below

@@ -7,9 +7,10 @@ use Rattle.context.specs.Entries.{context_codes}
 use Rattle.resolve.specs.Walk.{Looks}
 use Rattle.instance_names.specs.Sites.{arity_there}
 use Rattle.instance_names.specs.declared.Site.{Site}
+use Rattle.store.specs.declared.Facts.{Facts}
 
 -- one, "over the instance's parameters and then k more"
-unfoldable pub LooksOne : List ℕ → List ℕ → List ℕ → List ℕ → List ℕ → Site → ℕ → List ℕ → List ℕ → Bool → Bool → ℕ → Type 0
+unfoldable pub LooksOne : List ℕ → List ℕ → List Facts → List ℕ → List ℕ → Site → ℕ → List ℕ → List ℕ → Bool → Bool → ℕ → Type 0
 LooksOne file names facts contexts heads x at refs refs' u w y =
     Looks names facts (context_codes contexts heads x.modules) (x.params + arity_there names facts contexts heads x (number_at file at)) 0
     (expr_at max_nesting file (at + 4)) refs refs' u w y
@@ -27,7 +28,7 @@ pub record LooksThen (One : List ℕ → Bool → Bool → ℕ → Type 0) (Rest
   pub unknown : u ≡ (u₁ || u₂)
   pub miscounted : w ≡ (w₁ || w₂)
 
-unfoldable pub LooksEach : List ℕ → List ℕ → List ℕ → List ℕ → List ℕ → Site → List ℕ → List ℕ → List ℕ → Bool → Bool → Type 0
+unfoldable pub LooksEach : List ℕ → List ℕ → List Facts → List ℕ → List ℕ → Site → List ℕ → List ℕ → List ℕ → Bool → Bool → Type 0
 LooksEach file names facts contexts heads x [] refs refs' u w = (refs' ≡ refs) × (u ≡ false) × (w ≡ false)
 LooksEach file names facts contexts heads x (at ∷ ats) refs refs' u w =
     LooksThen (λ between u₁ w₁ y. LooksOne file names facts contexts heads x at refs between u₁ w₁ y)

@@ -11,23 +11,22 @@ use Rattle.worlds.specs.Rows.{Row}
 use Rattle.texts.specs.Text.{Declarations}
 use Rattle.fields.specs.declared.Parts.TheVariants.{Instance}
 use Rattle.context.specs.Parts.{part, place_of}
-use Rattle.store.specs.Store.{Store}
+use Rattle.store.specs.declared.Store.{Store}
 use Rattle.context.specs.declared.Counts.{Counts}
 use Rattle.resolve.proofs.Numbers.{declarations_of}
 use Rattle.entering.specs.Written.{written_at}
-use Rattle.entering.specs.declared.written.Writing.{Writing}
-use Rattle.entering.specs.declared.written.Writing.TheVariants.{Written, Unwritten}
+use Rattle.std.specs.Prelude.{Option as Answer, Some, None}
 use Rattle.judge_plain.specs.Judges.{cause_number}
 use Rattle.judge_plain.specs.declared.Phase.{Phase}
 use Rattle.standing.specs.Shown.{TextShown}
 use Rattle.standing.specs.Standing.{AtField, Standing}
 
 -- what is written for a name, by position, is what the rules find: a text that shows the resolved expression
-abbrev pub Agrees : List ℕ → List ℕ → Declarations → ℕ → State → Writing → Option Expression → Type 0
-Agrees file refs decls end s (Written a) (some e) = TextShown file refs decls end a (resolve s (here s) e)
-Agrees file refs decls end s (Written a) none = ⊥
-Agrees file refs decls end s Unwritten (some e) = ⊥
-Agrees file refs decls end s Unwritten none = Unit {0}
+abbrev pub Agrees : List ℕ → List ℕ → Declarations → ℕ → State → Answer ℕ → Option Expression → Type 0
+Agrees file refs decls end s (Some a) (some e) = TextShown file refs decls end a (resolve s (here s) e)
+Agrees file refs decls end s (Some a) none = ⊥
+Agrees file refs decls end s None (some e) = ⊥
+Agrees file refs decls end s None none = Unit {0}
 
 pub record NamesRight (file : List ℕ) (fs : List Field) (s : State) (v : Store) (c : Counts) (n p m k at : ℕ) (ss : List Substitution) (r : ℕ) (refs refs' : List ℕ) : Type 0 where
   pub cause : r ≡ cause_number (first_cause (take 7 (causes s (instance n p m ss))))

@@ -10,17 +10,17 @@ pub mod written;
 
 ghost use Rattle.std.specs.Prelude.{◌||◌, List, ◌≡◌, ℕ, ◌≤◌, ◌<◌};
 ghost use Rattle.limits.specs.Limits.{max_definitions, max_modules};
+ghost use Rattle.judge_plain.specs.Causes.{found_number};
 ghost use Rattle.instance_names.specs.Causes.{first_causes, first_number, site, NameCauses};
 ghost use Rattle.context.specs.Entries.{context_codes};
 ghost use Rattle.instance_names.specs.Sites.{miscounted_among, repeated_from, undeclared_in, unknown_among};
 ghost use Rattle.instance_names.specs.Names.{NamesJudged};
-ghost use Rattle.store.specs.Store.{held};
 
 use clashes::clashes;
 use context::Counts;
 use context::lookup::find_module;
 use implied::{implied_miscounted, implied_unknown};
-use judge_plain::{Phase, out_of_order};
+use judge_plain::{Cause, Phase, out_of_order};
 use limits_kept::over_limits;
 use names::{Flags, look_substitutions};
 use store::{Lent, Store};
@@ -49,8 +49,8 @@ pub struct Site {
 }
 
 // The field in its place, so many modules being ended.
-fn site_of(store: &[u16; Store::LENGTH], modules: usize, f: Instance) -> Site
-    ensures { (result ≡ site (held store.now).heads modules f.params f.source f.count f.at) × (result.modules ≡ modules) }
+fn site_of(store: &Store, modules: usize, f: Instance) -> Site
+    ensures { (result ≡ site store.now.heads modules f.params f.source f.count f.at) × (result.modules ≡ modules) }
 {
     let q = find_module(store, modules, f.source);
     Site {
@@ -65,102 +65,90 @@ fn site_of(store: &[u16; Store::LENGTH], modules: usize, f: Instance) -> Site
 // Causes 4, 5, 7, 8.
 fn first_cause(
     file: &[u8],
-    store: &[u16; Store::LENGTH],
+    store: &Store,
     phase: Phase,
     definitions: usize,
     x: Site,
     name: u16,
-) -> u8
+) -> Result<(), Cause>
     requires { (x.modules ≤ max_modules) × (definitions ≤ max_definitions) }
-    ensures { result ≡ first_number (first_causes file.now (held store.now).names (held store.now).facts (held store.now).contexts (held store.now).orders (held store.now).heads phase definitions x name) }
+    ensures { found_number result ≡ first_number (first_causes file.now store.now.names store.now.facts store.now.contexts store.now.orders store.now.heads phase definitions x name) }
 {
     if out_of_order(phase, 6) {
-        return 4;
+        return Err(Cause::OutOfOrder);
     }
     if over_limits(file, store, x, definitions) {
-        return 5;
+        return Err(Cause::LimitPassed);
     }
     if x.modules <= x.source {
-        return 7;
+        return Err(Cause::ModuleNotEnded);
     }
     if clashes(store, x, name) {
-        return 8;
+        return Err(Cause::NameTaken);
     }
-    0
+    Ok(())
 }
 
 // Cause 9: in an expression written, or of a name that stands for itself.
-fn is_unknown(file: &[u8], store: &[u16; Store::LENGTH], x: Site, l: Flags) -> bool
+fn is_unknown(file: &[u8], store: &Store, x: Site, l: Flags) -> bool
     requires { (x.modules ≤ max_modules) × (x.source ≤ max_modules) }
-    ensures { result ≡ (l.unknown || unknown_among file.now (held store.now).names (held store.now).facts (held store.now).contexts (held store.now).heads x (context_codes (held store.now).contexts (held store.now).heads x.source)) }
+    ensures { result ≡ (l.unknown || unknown_among file.now store.now.names store.now.facts store.now.contexts store.now.heads x (context_codes store.now.contexts store.now.heads x.source)) }
 {
-    if l.unknown {
-        return true;
-    }
-    implied_unknown(file, store, x)
+    l.unknown || implied_unknown(file, store, x)
 }
 
 // Cause 10 likewise.
-fn is_miscounted(file: &[u8], store: &[u16; Store::LENGTH], x: Site, l: Flags) -> bool
+fn is_miscounted(file: &[u8], store: &Store, x: Site, l: Flags) -> bool
     requires { (x.modules ≤ max_modules) × (x.source ≤ max_modules) }
-    ensures { result ≡ (l.miscounted || miscounted_among file.now (held store.now).names (held store.now).facts (held store.now).contexts (held store.now).heads x (context_codes (held store.now).contexts (held store.now).heads x.source)) }
+    ensures { result ≡ (l.miscounted || miscounted_among file.now store.now.names store.now.facts store.now.contexts store.now.heads x (context_codes store.now.contexts store.now.heads x.source)) }
 {
-    if l.miscounted {
-        return true;
-    }
-    implied_miscounted(file, store, x)
+    l.miscounted || implied_miscounted(file, store, x)
 }
 
 // Cause 11: a name that is not declared there, or one substituted twice.
-fn is_wrong(file: &[u8], store: &[u16; Store::LENGTH], x: Site) -> bool
+fn is_wrong(file: &[u8], store: &Store, x: Site) -> bool
     requires { x.source ≤ max_modules }
-    ensures { result ≡ (undeclared_in file.now (held store.now).names (held store.now).facts (held store.now).contexts (held store.now).heads x x.count x.at || repeated_from file.now x.count x.at) }
+    ensures { result ≡ (undeclared_in file.now store.now.names store.now.facts store.now.contexts store.now.heads x x.count x.at || repeated_from file.now x.count x.at) }
 {
-    if undeclared_name(file, store, x) {
-        return true;
-    }
-    repeated_name(file, x.at, x.count)
+    undeclared_name(file, store, x) || repeated_name(file, x.at, x.count)
 }
 
 // Causes 9, 10, 11, of a module that is ended, the limits being kept.
 fn name_cause(
     file: &[u8],
-    store: &[u16; Store::LENGTH],
+    store: &Store,
     refs: &mut [u16; Lent::REFS],
     x: Site,
-) -> u8
+) -> Result<(), Cause>
     requires { (x.modules ≤ max_modules) × (x.source < x.modules) }
-    ensures { NameCauses file.now (held store.now).names (held store.now).facts (held store.now).contexts (held store.now).heads x refs.old refs.new result }
+    ensures { NameCauses file.now store.now.names store.now.facts store.now.contexts store.now.heads x refs.old refs.new (found_number result) }
 {
     let l = look_substitutions(file, store, refs, x);
     if is_unknown(file, store, x, l) {
-        return 9;
+        return Err(Cause::NameUnknown);
     }
     if is_miscounted(file, store, x, l) {
-        return 10;
+        return Err(Cause::Miscounted);
     }
     if is_wrong(file, store, x) {
-        return 11;
+        return Err(Cause::WrongSubstitution);
     }
-    0
+    Ok(())
 }
 
-// The first of the causes 4, 5, 7, 8, 9, 10, 11 of an INSTANCE field; 0 if none holds.
+// The first of the causes 4, 5, 7, 8, 9, 10, 11 of an INSTANCE field.
 pub fn instance_cause(
     file: &[u8],
-    store: &[u16; Store::LENGTH],
+    store: &Store,
     refs: &mut [u16; Lent::REFS],
     phase: Phase,
     c: Counts,
     f: Instance,
-) -> u8
+) -> Result<(), Cause>
     requires { (c.modules ≤ max_modules) × (c.definitions ≤ max_definitions) }
-    ensures { (words : List ℕ) → NamesJudged file.now (held store.now) c phase words f.name f.params f.source f.count f.at result refs.old refs.new }
+    ensures { (words : List ℕ) → NamesJudged file.now store.now c phase words f.name f.params f.source f.count f.at (found_number result) refs.old refs.new }
 {
     let x = site_of(store, c.modules, f);
-    let cause = first_cause(file, store, phase, c.definitions, x, f.name);
-    if cause != 0 {
-        return cause;
-    }
+    first_cause(file, store, phase, c.definitions, x, f.name)?;
     name_cause(file, store, refs, x)
 }

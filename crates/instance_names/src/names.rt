@@ -3,7 +3,6 @@ ghost use Rattle.std.specs.Prelude.{◌≡◌, ◌||◌, ◌≤◌, ◌<◌, ◌
 ghost use Rattle.limits.specs.Limits.{max_modules};
 ghost use Rattle.instance_names.specs.Looking.{LooksOne, LooksEach};
 ghost use Rattle.instance_names.specs.Sites.{starts};
-ghost use Rattle.store.specs.Store.{held};
 
 use crate::Site;
 use crate::limits_kept::{arity_there, next_start};
@@ -18,22 +17,16 @@ pub struct Flags {
     pub miscounted: bool,
 }
 
-fn either(a: bool, b: bool) -> bool
-    ensures { result ≡ (a || b) }
-{
-    if a { true } else { b }
-}
-
 // The expression of the substitution at a position.
 fn look_substitution(
     file: &[u8],
-    store: &[u16; Store::LENGTH],
+    store: &Store,
     refs: &mut [u16; Lent::REFS],
     x: Site,
     at: usize,
 ) -> Looked
     requires { (x.modules ≤ max_modules) × (at < 2 ^ 63) }
-    ensures { LooksOne file.now (held store.now).names (held store.now).facts (held store.now).contexts (held store.now).heads x at refs.old refs.new result.unknown result.miscounted result.next }
+    ensures { LooksOne file.now store.now.names store.now.facts store.now.contexts store.now.heads x at refs.old refs.new result.unknown result.miscounted result.next }
 {
     let k = arity_there(store, x, tokens::number_at(file, at));
     let params = (x.params as usize) + k;
@@ -43,18 +36,17 @@ fn look_substitution(
 // All of them, one after another.
 pub fn look_substitutions(
     file: &[u8],
-    store: &[u16; Store::LENGTH],
+    store: &Store,
     refs: &mut [u16; Lent::REFS],
     x: Site,
 ) -> Flags
     requires { x.modules ≤ max_modules }
-    ensures { LooksEach file.now (held store.now).names (held store.now).facts (held store.now).contexts (held store.now).heads x (starts x.count file.now x.at) refs.old refs.new result.unknown result.miscounted }
+    ensures { LooksEach file.now store.now.names store.now.facts store.now.contexts store.now.heads x (starts x.count file.now x.at) refs.old refs.new result.unknown result.miscounted }
 {
     let mut at = x.at;
-    let mut left = x.count as usize;
     let mut unknown = false;
     let mut miscounted = false;
-    while 0 < left {
+    for _ in 0..x.count {
         if file.len() < at {
             return Flags {
                 unknown,
@@ -62,10 +54,9 @@ pub fn look_substitutions(
             };
         }
         let l = look_substitution(file, store, refs, x, at);
-        unknown = either(unknown, l.unknown);
-        miscounted = either(miscounted, l.miscounted);
+        unknown |= l.unknown;
+        miscounted |= l.miscounted;
         at = next_start(file, at);
-        left -= 1;
     }
     Flags {
         unknown,

@@ -6,13 +6,13 @@ use mathlib.Core.Path.{◌∙◌, ◌≡◌, ap, ap₂, refl, sym}
 use lib.Dec.{eqb}
 use lib.ListN.{get_or, length, set}
 use lib.Seq.{get_or-set_other}
-use native.Mathlib.Numerals.{add-one}
 use native.Mathlib.Omega.{arith}
 use Prim.Native.Nat.{◌%◌, ◌*◌, ◌+◌, ◌-◌, ◌<◌, ◌≤◌, suc, zero, ℕ}
 use Rattle.context.proofs.Parts.{part_end, part_length, part-set, part-turn}
 use Rattle.context.specs.Parts.{part}
 use Rattle.context.specs.Entries.{after_definitions, counts, field_code, word_count}
-use Rattle.store.specs.Store.{Store, context_slot, order_slot, row, row_at}
+use Rattle.store.specs.Store.{context_slot, order_slot, row, row_at}
+use Rattle.store.specs.declared.Store.{Store}
 use Rattle.store.specs.Updates.{grown, in_both, in_context, in_order, longer, with_row}
 use Rattle.context.specs.declared.Counts.{Counts}
 use Rattle.store.specs.declared.Facts.{Facts}
@@ -87,11 +87,11 @@ module _ (v w : Store) (m p name link o g i end : ℕ) (e : w ≡ bring_one m p 
   unfolding bring_one
   order_room h = rw e (omega (arith, list-grown v.heads m name))
 
-pub bring-turn : (v w u : Store) (m p name link o g i end : ℕ) → w ≡ bring_one m p name link v o g → bring_all m p name link v o (part v.orders i (end - i)) ≡ u
-    → g ≡ get_or v.orders i 0 → i < end → end ≤ m * max_definitions → bring_all m p name link w (o + 1) (part w.orders (i + 1) (end - (i + 1))) ≡ u
+pub bring-turn : (v w u : Store) (m p name link o g i end next : ℕ) → next ≡ suc o → w ≡ bring_one m p name link v o g → bring_all m p name link v o (part v.orders i (end - i)) ≡ u
+    → g ≡ get_or v.orders i 0 → i < end → end ≤ m * max_definitions → bring_all m p name link w next (part w.orders (i + 1) (end - (i + 1))) ≡ u
 unfolding bring_all bring_one
-bring-turn v w u m p name link o g i end stores same f l k =
-    ap₂ (bring_all m p name link w) (add-one o) rest
+bring-turn v w u m p name link o g i end next up stores same f l k =
+    ap₂ (bring_all m p name link w) up rest
     ∙ ap (λ (x : Store). bring_all m p name link x (suc o) (part v.orders (i + 1) (end - (i + 1)))) stores
     ∙ ap (λ (x : ℕ). bring_all m p name link v o (x ∷ part v.orders (i + 1) (end - (i + 1)))) f
     ∙ ap (bring_all m p name link v o) (sym (part-turn v.orders i end l)) ∙ same

@@ -9,20 +9,21 @@ use native.Mathlib.Nat.{add-zero, mod-eq_of_lt}
 use native.Mathlib.Omega.{arith}
 use Prim.Native.Nat.{◌%◌, ◌*◌, ◌+◌, ◌-◌, ◌<◌, ◌≤◌, suc, zero, ℕ}
 use Rattle.context.proofs.Adds.{hold-as, plain-one}
-use Rattle.context.proofs.Change.{fact-count, fact-first, fact-kind}
+use Rattle.context.proofs.Change.{fact-same}
 use Rattle.context.proofs.Growing.{hold-define, hold-field, hold-note, state}
 use Rattle.context.proofs.Parts.{part_length}
 use Rattle.instancing.specs.Bringing.{bring_all, bring_one, brought_row, instance_noted, instance_row, instancing, pushed_contexts, pushed_heads, via_under}
 use Rattle.context.specs.Holds.{Holds, Linked, module_no}
 use Rattle.context.specs.Entries.{after_definitions, counts, described_as, entry_at, field_code, instance_kind, order_of, path_of, variable_kind, word_count}
-use Rattle.store.specs.Store.{Store, kind_at, order_slot, via_at}
-use Rattle.store.specs.Updates.{in_context, in_order, stored, with_row}
+use Rattle.store.specs.Store.{kind_at, order_slot, via_at}
+use Rattle.store.specs.declared.Store.{Store}
+use Rattle.store.specs.Updates.{in_context, in_order, with_row}
 use Rattle.limits.specs.Limits.{max_definitions}
-use Rattle.limits.specs.Sizes.{code_count, column_count, facts_length, max_fields}
+use Rattle.limits.specs.Sizes.{code_count, max_fields}
 use Rattle.rules.specs.Add.{add, under_names, with_more}
 use Rattle.rules.specs.Expression.{first}
 use Rattle.rules.specs.Field.{Substitution, instance}
-use Rattle.rules.specs.Instance.{brought_all, brought_one, path_under, source, substitute}
+use Rattle.rules.specs.Instance.{brought_all, path_under, source, substitute}
 use Rattle.rules.specs.State.{Added, Entry, Module, State, defines, definition_at, inside, instances, no_definition}
 use Rattle.theory.proofs.Bytes.{written}
 use Rattle.theory.proofs.Lists.{map-all}
@@ -168,22 +169,20 @@ module _ (p : ℕ) (σ : Kind → ℕ → Term) (original : ℕ → Added) (link
 
 -- the field
 
-instance-entry : (names facts : List ℕ) (f f' name p first count q at written : ℕ) → length names ≡ code_count → length facts ≡ facts_length → f < max_fields → f ≡ f'
-    → entry_at (set names (field_code f) name) (stored facts (field_code f) (instance_row p first count q at written)) (field_code f) ≡ instances name f' (numbers_from first count)
+instance-entry : (names : List ℕ) (facts : List Facts) (f f' name p first count q at written : ℕ) → length names ≡ code_count → length facts ≡ code_count → f < max_fields → f ≡ f'
+    → entry_at (set names (field_code f) name) (set facts (field_code f) (instance_row p first count q at written)) (field_code f) ≡ instances name f' (numbers_from first count)
 unfolding entry_at
 instance-entry names facts f f' name p first count q at written a b l e =
     let i : field_code f - max_definitions ≡ f' = omega arith in
-    let r : column_count * field_code f + 5 < length facts = omega arith in
-    let row-there : Facts = instance_row p first count q at written in
     rw (
       le-ltb (field_code f) max_definitions (omega arith),
-      fact-kind facts (field_code f) row-there r,
+      ap (λ (g : Facts). g.kind) (fact-same facts (field_code f) (instance_row p first count q at written) (omega arith)),
+      ap (λ (g : Facts). g.first) (fact-same facts (field_code f) (instance_row p first count q at written) (omega arith)),
+      ap (λ (g : Facts). g.count) (fact-same facts (field_code f) (instance_row p first count q at written) (omega arith)),
       le-ltb (instance_kind + p) variable_kind (omega arith),
       ne_eqb (instance_kind + p) variable_kind (λ (z : instance_kind + p ≡ variable_kind). omega arith),
       get_or-set_same names (field_code f) name 0 (omega arith),
       i,
-      fact-first facts (field_code f) row-there r,
-      fact-count facts (field_code f) row-there r,
     )
     refl
 
@@ -261,7 +260,7 @@ module _ (v : Store) (c : Counts) (s : State) (holds : Holds v c s) (room : c.fi
       held : Holds w d t
       held = brought-holds (suc n) ready
 
-      entry : entry_at (set w.names (field_code c.fields) (suc n)) (stored w.facts (field_code c.fields) row_there) (field_code c.fields)
+      entry : entry_at (set w.names (field_code c.fields) (suc n)) (set w.facts (field_code c.fields) row_there) (field_code c.fields)
           ≡ instances (suc n) s.fields (numbers_from c.definitions count)
       entry =
           instance-entry w.names w.facts c.fields s.fields (suc n) p c.definitions count q at written held.sized.names held.sized.facts room holds.fields

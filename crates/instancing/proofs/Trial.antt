@@ -14,12 +14,12 @@ use Rattle.instancing.specs.Bringing.{instancing}
 use Rattle.context.specs.Holds.{Holds}
 use Rattle.context.specs.Lookup.{code_under}
 use Rattle.context.specs.Entries.{after_declaration, after_definitions, after_end, after_field, begun, declaring, defining, no_counts, own_row, variable_kind}
-use Rattle.store.specs.Store.{Store, empty, order_slot}
+use Rattle.store.specs.Store.{empty, order_slot}
+use Rattle.store.specs.declared.Store.{Store}
 use Rattle.rules.specs.Add.{add}
 use Rattle.rules.specs.Expression.{Expression, expression}
 use Rattle.rules.specs.Field.{begin_module, declare_variable, definition, end_module, instance}
 use Rattle.rules.specs.State.{State, start}
-use Rattle.theory.specs.Level.{plain}
 use Rattle.theory.specs.Lists.{numbers_from}
 use Rattle.context.specs.declared.Counts.{Counts}
 

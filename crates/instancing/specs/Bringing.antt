@@ -1,7 +1,8 @@
 -- INSTANCE: the definitions that it brings, one after the other, and then what is kept of the field.
 use Rattle.std.specs.Prelude.{cond, List, [], ◌∷◌, ℕ, suc, ◌+◌, ◌%◌, eqb, get_or}
 use Rattle.context.specs.Entries.{field_code, instance_kind, order_of, word_count}
-use Rattle.store.specs.Store.{Store, context_slot, count_at, first_at, kind_at, order_slot, row, via_at}
+use Rattle.store.specs.Store.{context_slot, count_at, first_at, kind_at, order_slot, row, via_at}
+use Rattle.store.specs.declared.Store.{Store}
 use Rattle.store.specs.Updates.{grown, longer, with_code, with_contexts, with_heads, with_number, with_orders, with_row}
 use Rattle.context.specs.declared.Counts.{Counts}
 use Rattle.store.specs.declared.Facts.{Facts}
@@ -11,7 +12,7 @@ unfoldable pub via_under : ℕ → ℕ → ℕ
 via_under name old = cond (eqb name 0) old name
 
 -- a definition brought from g by an instance of that name with p parameters
-unfoldable pub brought_row : List ℕ → ℕ → ℕ → ℕ → ℕ → Facts
+unfoldable pub brought_row : List Facts → ℕ → ℕ → ℕ → ℕ → Facts
 brought_row facts g p name link =
     row ((p + kind_at facts g) % word_count) (first_at facts g) (count_at facts g) (via_under name (via_at facts g)) g link
 

@@ -6,14 +6,12 @@ ghost use Rattle.limits.specs.Limits.{max_arity, max_definitions, max_modules};
 ghost use Rattle.limits.specs.Sizes.{code_count, context_length, max_fields};
 ghost use Rattle.context.specs.Parts.{part};
 ghost use Rattle.context.specs.Entries.{word_count, after_definitions};
-ghost use Rattle.store.specs.Store.{context_slot, held, order_slot};
+ghost use Rattle.store.specs.Store.{context_slot, order_slot};
 ghost use Rattle.store.specs.Updates.{with_row};
 ghost use Rattle.instancing.specs.Bringing.{via_under, brought_row, pushed_as, bring_one, bring_all, instance_noted, instancing};
 
 use context::{Counts, Kinds};
 use limits::Limits;
-use store::reading::{facts_at, head_at, name_at, order_at};
-use store::writing::{push_both, push_context, push_order, put_row};
 use store::{Facts, Store};
 
 // What all that an instance brings has from it: the module that it stands in, its parameter count, its name or 0, its field + 1.
@@ -43,12 +41,12 @@ pub fn via_under(name: u16, old: u16) -> u16
 }
 
 // Stores definition o as brought from definition g: the instance's parameters come before its own.
-pub fn bring_entry(store: &mut [u16; Store::LENGTH], o: usize, g: u16, under: Inherited)
+pub fn bring_entry(store: &mut Store, o: usize, g: u16, under: Inherited)
     requires { o < code_count }
-    ensures { held store.new ≡ with_row (held store.old) o (get_or (held store.old).names g 0) (brought_row (held store.old).facts g under.params under.name under.link) }
+    ensures { store.new ≡ with_row store.old o (get_or store.old.names g 0) (brought_row store.old.facts g under.params under.name under.link) }
 {
-    let called = name_at(store, g as usize);
-    let old = facts_at(store, g as usize);
+    let called = store.name_at(g as usize);
+    let old = store.facts_at(g as usize);
     let kind = sum(under.params, old.kind);
     let via = via_under(under.name, old.via);
     let r = Facts {
@@ -59,67 +57,56 @@ pub fn bring_entry(store: &mut [u16; Store::LENGTH], o: usize, g: u16, under: In
         source: g,
         link: under.link,
     };
-    put_row(store, o, called, r);
+    store.put_row(o, called, r);
 }
 
 // A brought definition's number after the definitions of module m and, where the instance has no name, after its context.
-pub fn push_as(store: &mut [u16; Store::LENGTH], m: usize, g: u16, name: u16)
-    requires { (m ≤ max_modules) × (get_or (held store.old).heads (context_slot m) 0 < context_length) × (get_or (held store.old).heads (order_slot m) 0 < max_definitions) }
-    ensures { held store.new ≡ pushed_as (held store.old) m g name }
+pub fn push_as(store: &mut Store, m: usize, g: u16, name: u16)
+    requires { (m ≤ max_modules) × (get_or store.old.heads (context_slot m) 0 < context_length) × (get_or store.old.heads (order_slot m) 0 < max_definitions) }
+    ensures { store.new ≡ pushed_as store.old m g name }
 {
     if name == 0 {
-        push_both(store, m, g);
+        store.push_both(m, g);
         return;
     }
-    push_order(store, m, g);
+    store.push_order(m, g);
 }
 
 // Brings definition g as definition o.
-pub fn bring_one(store: &mut [u16; Store::LENGTH], o: usize, g: u16, under: Inherited)
-    requires { (under.module ≤ max_modules) × (o < max_definitions) × (get_or (held store.old).heads (context_slot under.module) 0 < context_length) × (get_or (held store.old).heads (order_slot under.module) 0 < max_definitions) }
-    ensures { held store.new ≡ bring_one under.module under.params under.name under.link (held store.old) o g }
+pub fn bring_one(store: &mut Store, o: usize, g: u16, under: Inherited)
+    requires { (under.module ≤ max_modules) × (o < max_definitions) × (get_or store.old.heads (context_slot under.module) 0 < context_length) × (get_or store.old.heads (order_slot under.module) 0 < max_definitions) }
+    ensures { store.new ≡ bring_one under.module under.params under.name under.link store.old o g }
 {
     bring_entry(store, o, g, under);
     push_as(store, under.module, o as u16, under.name);
 }
 
 // Brings the definitions from place from to place end of the lists as definitions d up.
-pub fn bring_all(
-    store: &mut [u16; Store::LENGTH],
-    from: usize,
-    end: usize,
-    d: usize,
-    under: Inherited,
-)
-    requires { (under.module ≤ max_modules) × (end ≤ under.module * max_definitions) × (from ≤ end) × (d + (end - from) ≤ max_definitions) × (get_or (held store.old).heads (context_slot under.module) 0 + (end - from) ≤ context_length) × (get_or (held store.old).heads (order_slot under.module) 0 + (end - from) ≤ max_definitions) }
-    ensures { held store.new ≡ bring_all under.module under.params under.name under.link (held store.old) d (part (held store.old).orders from (end - from)) }
+pub fn bring_all(store: &mut Store, from: usize, end: usize, d: usize, under: Inherited)
+    requires { (under.module ≤ max_modules) × (end ≤ under.module * max_definitions) × (from ≤ end) × (d + (end - from) ≤ max_definitions) × (get_or store.old.heads (context_slot under.module) 0 + (end - from) ≤ context_length) × (get_or store.old.heads (order_slot under.module) 0 + (end - from) ≤ max_definitions) }
+    ensures { store.new ≡ bring_all under.module under.params under.name under.link store.old d (part store.old.orders from (end - from)) }
 {
-    let mut o = d;
-    let mut i = from;
-    while i < end {
-        let g = order_at(store, i);
-        bring_one(store, o, g, under);
-        o += 1;
-        i += 1;
+    for i in from..end {
+        bring_one(store, d + (i - from), store.order_at(i), under);
     }
 }
 
 // Keeps what is known of an INSTANCE field under its code o; its name, if it has one, comes after the context of module m.
-pub fn note_instance(store: &mut [u16; Store::LENGTH], m: usize, o: usize, name: u16, r: Facts)
-    requires { (m ≤ max_modules) × (o < code_count) × (get_or (held store.old).heads (context_slot m) 0 < context_length) }
-    ensures { held store.new ≡ instance_noted m o name r (held store.old) }
+pub fn note_instance(store: &mut Store, m: usize, o: usize, name: u16, r: Facts)
+    requires { (m ≤ max_modules) × (o < code_count) × (get_or store.old.heads (context_slot m) 0 < context_length) }
+    ensures { store.new ≡ instance_noted m o name r store.old }
 {
-    put_row(store, o, name, r);
+    store.put_row(o, name, r);
     if name == 0 {
         return;
     }
-    push_context(store, m, o as u16);
+    store.push_context(m, o as u16);
 }
 
 // An INSTANCE field of module q: its name or 0, its parameter count, where its first substitution stands, and how many
 // are written with the module that the field stands in, as one number.
 pub fn add_instance(
-    store: &mut [u16; Store::LENGTH],
+    store: &mut Store,
     c: Counts,
     name: u16,
     params: u16,
@@ -127,13 +114,13 @@ pub fn add_instance(
     at: u16,
     written: u16,
 ) -> Counts
-    requires { (c.modules ≤ max_modules) × (q < c.modules) × (c.fields < max_fields) × (params ≤ max_arity) × (c.definitions + get_or (held store.old).heads (order_slot q) 0 ≤ max_definitions) × (get_or (held store.old).heads (context_slot c.modules) 0 + get_or (held store.old).heads (order_slot q) 0 < context_length) × (get_or (held store.old).heads (order_slot c.modules) 0 + get_or (held store.old).heads (order_slot q) 0 ≤ max_definitions) }
-    ensures { (result ≡ after_definitions (get_or (held store.old).heads (order_slot q) 0) c) × (held store.new ≡ instancing c name params q at written (held store.old)) }
+    requires { (c.modules ≤ max_modules) × (q < c.modules) × (c.fields < max_fields) × (params ≤ max_arity) × (c.definitions + get_or store.old.heads (order_slot q) 0 ≤ max_definitions) × (get_or store.old.heads (context_slot c.modules) 0 + get_or store.old.heads (order_slot q) 0 < context_length) × (get_or store.old.heads (order_slot c.modules) 0 + get_or store.old.heads (order_slot q) 0 ≤ max_definitions) }
+    ensures { (result ≡ after_definitions (get_or store.old.heads (order_slot q) 0) c) × (store.new ≡ instancing c name params q at written store.old) }
 {
     let m = c.modules;
     let d = c.definitions;
     let fields = c.fields + 1;
-    let count = head_at(store, 2 * Limits::PLACES + q);
+    let count = store.head_at(2 * Limits::PLACES + q);
     let from = q * Limits::DEFINITIONS;
     let end = from + (count as usize);
     let definitions = d + (count as usize);

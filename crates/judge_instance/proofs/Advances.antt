@@ -14,7 +14,8 @@ use Rattle.context.proofs.Parts.{part_length}
 use Rattle.context.specs.Holds.{Holds, module_no}
 use Rattle.context.specs.Parts.{part, place_of}
 use Rattle.context.specs.Entries.{after_definitions, codes_of, order_of}
-use Rattle.store.specs.Store.{Store, order_slot}
+use Rattle.store.specs.Store.{order_slot}
+use Rattle.store.specs.declared.Store.{Store}
 use Rattle.context.specs.declared.Counts.{Counts}
 use Rattle.entering.specs.Substitutes.{around}
 use Rattle.entering.specs.Written.{written_at}

@@ -11,7 +11,8 @@ use Prim.Native.Nat.{◌*◌, ◌+◌, ◌-◌, ◌<◌, ◌≤◌, ℕ}
 use Rattle.context.proofs.Parts.{part_length}
 use Rattle.context.specs.Holds.{Holds, module_no}
 use Rattle.context.specs.Entries.{after_definitions, order_of}
-use Rattle.store.specs.Store.{Store, order_slot}
+use Rattle.store.specs.Store.{order_slot}
+use Rattle.store.specs.declared.Store.{Store}
 use Rattle.context.specs.declared.Counts.{Counts}
 use Rattle.entering.specs.Written.{written_at}
 use Rattle.instancing.specs.Bringing.{instancing}

@@ -1,18 +1,19 @@
 -- The store after the whole field: what it keeps, and what is new.
 use mathlib.Core.List.{List}
-use mathlib.Core.Path.{◌∙◌, ◌≡◌}
+use mathlib.Core.Path.{◌∙◌, ◌≡◌, ap}
 use lib.ListN.{get_or, length}
 use native.Mathlib.Omega.{arith}
 use Prim.Native.Nat.{◌*◌, ◌+◌, ◌<◌, ◌≤◌, suc, ℕ}
 use Rattle.context.proofs.Parts.{part_length}
 use Rattle.context.specs.Holds.{Known, Sized}
 use Rattle.context.specs.Entries.{field_code, instance_kind, order_of}
-use Rattle.store.specs.Store.{Store, first_at, kind_at, link_at, order_slot, source_at, via_at}
+use Rattle.store.specs.Store.{first_at, kind_at, link_at, order_slot, source_at, via_at}
+use Rattle.store.specs.declared.Store.{Store}
 use Rattle.context.specs.declared.Counts.{Counts}
 use Rattle.store.specs.declared.Facts.{Facts}
 use Rattle.instancing.specs.Bringing.{bring_all, instance_row, instancing}
 use Rattle.limits.specs.Limits.{max_definitions}
-use Rattle.limits.specs.Sizes.{column_count, max_fields}
+use Rattle.limits.specs.Sizes.{max_fields}
 use Rattle.standing.specs.Grows.{RowsKept}
 use Rattle.judge_instance.proofs.Bringing.{all-facts, all-facts-size, all-link, all-names, all-source, noted-facts, noted-first, noted-kind, noted-link, noted-names, noted-source, noted-via}
 
@@ -47,7 +48,7 @@ module _ (v : Store) (c : Counts) (sized : Sized v c) (room : c.fields < max_fie
   old-earlier : (o : ℕ) → Known c.fields c.definitions o → o ≡ code → ⊥
   old-earlier o k e = omega (arith, k.below)
 
-  wide : column_count * code + 5 < length half.facts
+  wide : code < length half.facts
   wide = rw (all-facts-size c.modules p name (c.fields + 1) brought_from v c.definitions) (omega (arith, sized.facts))
 
   pub rows-kept : RowsKept v c instanced
@@ -57,28 +58,28 @@ module _ (v : Store) (c : Counts) (sized : Sized v c) (room : c.fields < max_fie
         names = λ o k.
             noted-names c.modules code name row_there half o (old-earlier o k)
             ∙ all-names c.modules p name (c.fields + 1) brought_from v c.definitions o (old_apart o k);
-        facts = λ o i k l.
-            noted-facts c.modules code name row_there half o i (old-earlier o k) l
-            ∙ all-facts c.modules p name (c.fields + 1) brought_from v c.definitions o i (old_apart o k) l;
+        facts = λ o k.
+            noted-facts c.modules code name row_there half o (old-earlier o k)
+            ∙ all-facts c.modules p name (c.fields + 1) brought_from v c.definitions o (old_apart o k);
       }
 
   -- The new definitions: where each comes from, and the field that brought it.
   new_apart : (i : ℕ) → i < length brought_from → c.definitions + i ≡ code → ⊥
   new_apart i l e = omega (arith, count-length)
 
-  facts-wide : column_count * (c.definitions + length brought_from) ≤ length v.facts
+  facts-wide : c.definitions + length brought_from ≤ length v.facts
   facts-wide = omega (arith, sized.facts, count-length)
 
   pub new-source : (i : ℕ) → i < length brought_from → source_at instanced.facts (c.definitions + i) ≡ get_or brought_from i 0
   unfolding instancing
   new-source i l =
-      noted-facts c.modules code name row_there half (c.definitions + i) 4 (new_apart i l) (omega arith)
+      ap (λ (f : Facts). f.source) (noted-facts c.modules code name row_there half (c.definitions + i) (new_apart i l))
       ∙ all-source c.modules p name (c.fields + 1) brought_from v c.definitions i l facts-wide
 
   pub new-link : (i : ℕ) → i < length brought_from → link_at instanced.facts (c.definitions + i) ≡ suc c.fields
   unfolding instancing
   new-link i l =
-      noted-facts c.modules code name row_there half (c.definitions + i) 5 (new_apart i l) (omega arith)
+      ap (λ (f : Facts). f.link) (noted-facts c.modules code name row_there half (c.definitions + i) (new_apart i l))
       ∙ all-link c.modules p name (c.fields + 1) brought_from v c.definitions i l facts-wide ∙ omega arith
 
   -- What is kept of the field itself.

@@ -9,7 +9,8 @@ use native.Mathlib.Omega.{arith}
 use Prim.Native.Nat.{◌+◌, ◌-◌, ◌*◌, ◌≤◌, ℕ}
 use Rattle.chains.specs.Results.{BroughtForms}
 use Rattle.context.specs.Parts.{part, place_of}
-use Rattle.store.specs.Store.{Store, order_slot}
+use Rattle.store.specs.Store.{order_slot}
+use Rattle.store.specs.declared.Store.{Store}
 use Rattle.context.specs.Entries.{after_definitions, codes_of, context_codes, order_of}
 use Rattle.context.specs.declared.Counts.{Counts}
 use Rattle.entering.specs.Substitutes.{around}
@@ -153,7 +154,6 @@ module _ (file : List ℕ) (v : Store) (c : Counts) (ph : Phase) (refs words : L
             let few-here = few file fs s rs v c ph refs words stands n p m k at ss t cause refs' right zr in
             subst (λ (q : ℕ). Bringable v words c p q at) (sym eq)
             (record {
-              words_size = stands.words_size;
               modules = room.modules;
               earlier = earlier file fs s rs v c ph refs words stands n p m k at ss t cause refs' right zr;
               fields = room.fields;

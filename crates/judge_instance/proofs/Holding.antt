@@ -7,7 +7,8 @@ use native.Mathlib.Omega.{arith}
 use Prim.Native.Nat.{◌+◌, ◌<◌, ◌≤◌, ℕ}
 use Rattle.context.specs.Holds.{Holds, module_no}
 use Rattle.context.specs.Entries.{after_definitions}
-use Rattle.store.specs.Store.{Store, order_slot}
+use Rattle.store.specs.Store.{order_slot}
+use Rattle.store.specs.declared.Store.{Store}
 use Rattle.context.specs.declared.Counts.{Counts}
 use Rattle.instancing.proofs.Instancing.{Ready, adds-instance}
 use Rattle.instancing.specs.Bringing.{instancing}

@@ -12,9 +12,12 @@ use Rattle.context.proofs.Lookups.{current-no, entry_named, entry_of}
 use Rattle.context.specs.Holds.{Holds, module_no}
 use Rattle.context.specs.Lookup.{as_code, code_named, operator_at, operator_in}
 use Rattle.context.specs.Entries.{codes_of, entry_at, field_code, variable_kind}
-use Rattle.store.specs.Store.{Store, count_at, first_at, kind_at}
+use Rattle.store.specs.Store.{count_at, first_at, kind_at}
+use Rattle.store.specs.declared.Store.{Store}
+use Rattle.store.specs.declared.Facts.{Facts}
 use Rattle.context.specs.declared.Counts.{Counts}
-use Rattle.context.specs.declared.Operator.TheVariants.{Constant, Variable, Defined, Unknown}
+use Rattle.std.specs.Prelude.{Some, None}
+use Rattle.context.specs.declared.Operator.TheVariants.{Constant, Variable, Defined}
 use Rattle.entering.specs.Implied.{implied_ref, number_of, ref_of}
 use Rattle.laws.proofs.Invariant.{EntryKnown, Good}
 use Rattle.laws.proofs.Origins.{Origins}
@@ -35,12 +38,12 @@ declared-head decls d kind x e =
     rw (le-ltb (max_definitions + d) max_definitions (omega arith), z, e)
 
 -- a declaration has its number
-number-there : (facts : List ℕ) (o : ℕ) → max_definitions ≤ o → kind_at facts o ≤ variable_kind → first_at facts o < max_declarations → number_of facts o ≡ first_at facts o
+number-there : (facts : List Facts) (o : ℕ) → max_definitions ≤ o → kind_at facts o ≤ variable_kind → first_at facts o < max_declarations → number_of facts o ≡ first_at facts o
 unfolding number_of
 number-there facts o a b l =
     rw (le-leb max_definitions o a, le-leb (kind_at facts o) variable_kind b, lt-ltb (first_at facts o) max_declarations l) refl
 
-module _ (names facts : List ℕ) (decls : Declarations) (few : length decls ≤ max_declarations) (N : ℕ) (low : N ≤ max_definitions) where
+module _ (names : List ℕ) (facts : List Facts) (decls : Declarations) (few : length decls ≤ max_declarations) (N : ℕ) (low : N ≤ max_definitions) where
   -- a number is below all definitions and declarations, and stands for h
   abbrev Finds : ℕ → Head → Type 0
   Finds r h = (r < max_definitions + length decls) × (ref_head decls r ≡ h)
@@ -62,7 +65,7 @@ module _ (names facts : List ℕ) (decls : Declarations) (few : length decls ≤
 
   tested-finds : (o : ℕ) (h : Head) (a : Bool) → ltb o max_definitions ≡ a → (b : Bool) → ltb (kind_at facts o) variable_kind ≡ b → (e : Bool) → eqb (kind_at facts o) variable_kind ≡ e
       → Numbered facts decls (entry o a b e) → EntryKnown N (entry o a b e) → operator_of (entry o a b e) ≡ some h
-      → Finds (ref_of facts (cond a (Defined o) (cond b (Constant o (kind_at facts o)) (cond e (Variable o) Unknown)))) h
+      → Finds (ref_of facts (cond a (Some (Defined o)) (cond b (Some (Constant o (kind_at facts o))) (cond e (Some (Variable o)) None)))) h
   unfolding ref_of
   tested-finds o h true p b i e j n k q =
       let z : defined o ≡ h = cc in

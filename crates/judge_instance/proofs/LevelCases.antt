@@ -9,23 +9,24 @@ use native.Mathlib.Omega.{arith}
 use Prim.Native.Nat.{◌*◌, ◌+◌, ◌-◌, ◌<◌, ◌≤◌, suc, zero, ℕ}
 use Rattle.context.proofs.Judging.{kind_answered, kind_of}
 use Rattle.context.proofs.Parts.{part_end, part-turn}
-use Rattle.context.specs.Lookup.{as_code, declared_named, instance_among, is_declared, operator_in}
+use Rattle.context.specs.Lookup.{as_code, declared_named, is_declared, operator_in}
 use Rattle.context.specs.Parts.{part}
 use Rattle.context.specs.Entries.{context_codes}
 use Rattle.store.specs.Store.{context_slot, kind_at}
+use Rattle.store.specs.declared.Facts.{Facts}
+use Rattle.std.specs.Prelude.{Option as Answer, Some, None}
 use Rattle.context.specs.declared.Operator.{Operator}
-use Rattle.context.specs.declared.Operator.TheVariants.{Constant, Variable, Defined, Unknown}
+use Rattle.context.specs.declared.Operator.TheVariants.{Constant, Variable, Defined}
 use Rattle.entering.specs.Substitutes.{Around, Stands, around}
 use Rattle.entering.specs.declared.substitutes.Site.{Site}
 use Rattle.forms.specs.Forms.{level_at}
 use Rattle.limits.specs.Limits.{max_definitions}
-use Rattle.limits.specs.Sizes.{column_count, context_length}
+use Rattle.limits.specs.Sizes.{context_length}
 use Rattle.rules.specs.Instance.{is_kind, lawful}
 use Rattle.standing.specs.Standing.{itselves}
 use Rattle.theory.proofs.Lists.{never}
 use Rattle.theory.specs.Lists.{numbers_from}
 use Rattle.theory.specs.Term.{Kind, constant, variable}
-use Rattle.judge_instance.specs.Constancy.{constant_codes}
 use Rattle.instance_names.specs.Causes.{first_number}
 use Rattle.judge_instance.specs.Levels.{LaterJudged, LevelFound, LevelsSeen, Tested, answers, is_at, is_free, is_incorrect, is_mixed, is_unlawful, later_causes, own_kind, seen_with}
 use Rattle.judge_instance.specs.declared.lawful.Seen.{Seen}
@@ -43,7 +44,7 @@ module _ (b : Bool) (kind : ℕ) where
   unfolding is_free
   free-zero e = rw e refl
 
-  pub free_other : (kind ≡ 0 → ⊥) → false ≡ is_free b kind
+  pub free_other : (kind ≡ 0 → ⊥) → eqb kind 0 ≡ is_free b kind
   unfolding is_free
   free_other n = rw (ne_eqb kind 0 n) refl
 
@@ -69,19 +70,7 @@ module _ (b : Bool) (kind : ℕ) where
         go zero false z = refl
         go (suc k) y z = refl
 
--- either, both, with_level
-pub either_first : (a b : Bool) → a ≡ true → true ≡ (a || b)
-either_first a b e = rw e refl
-
-pub either_second : (a b : Bool) → a ≡ false → b ≡ (a || b)
-either_second a b e = rw e refl
-
-pub both-second : (a b : Bool) → a ≡ true → b ≡ (a && b)
-both-second a b e = rw e refl
-
-pub both-not : (a b : Bool) → a ≡ false → false ≡ (a && b)
-both-not a b e = rw e refl
-
+-- with_level
 pub with-level : (b : Bool) (seen : Seen) (kind level : ℕ) (x u t m lawfully : Bool) → lawfully ≡ lawful b (kind_of kind) level → x ≡ (seen.incorrect || eqb level 4)
     → u ≡ (seen.unlawful || not lawfully) → t ≡ (seen.transition || eqb level 2) → m ≡ (seen.temporal || eqb level 3)
     → record { incorrect = x; unlawful = u; transition = t; temporal = m } ≡ seen_with b seen (kind_of kind) level
@@ -89,16 +78,8 @@ unfolding seen_with
 with-level b seen kind level x u t m lawfully e ex eu et em =
     rw (ex, eu, et, em, e, eqb-turn level 4, eqb-turn level 2, eqb-turn level 3) refl
 
--- is_mixed, cause_seen
+-- cause_seen
 module _ (b : Bool) (seen : Seen) where
-  pub mixed-constant : (r : Bool) → b ≡ true → r ≡ (seen.transition && seen.temporal) → r ≡ is_mixed b seen
-  unfolding is_mixed
-  mixed-constant r e h = rw e h
-
-  pub mixed-other : b ≡ false → false ≡ is_mixed b seen
-  unfolding is_mixed
-  mixed-other e = rw e refl
-
   module _ (named : Bool) where
     pub seen-12 : seen.incorrect ≡ true → 12 ≡ first_number (later_causes b seen named)
     unfolding later_causes
@@ -122,34 +103,34 @@ module _ (b : Bool) (seen : Seen) where
       seen-0 e f g i = rw (sym h, g, e, f, i) refl
 
 -- is_answer
-module _ (kind : ℕ) (x : Operator) where
-  pub answer-not-variable : (o k : ℕ) → x ≡ Constant o k → kind ≡ 256 → false ≡ answers kind x
+module _ (kind : ℕ) (x : Answer Operator) where
+  pub answer-not-variable : (o k : ℕ) (y : Operator) → x ≡ Some y → y ≡ Constant o k → kind ≡ 256 → not (eqb kind 256) ≡ answers kind x
   unfolding answers
-  answer-not-variable o k e z = rw (e, z) refl
+  answer-not-variable o k y e i z = rw (e, i, z) refl
 
-  pub answer-constant : (o k : ℕ) → x ≡ Constant o k → (kind ≡ 256 → ⊥) → eqb kind k ≡ answers kind x
+  pub answer-constant : (o k : ℕ) (y : Operator) → x ≡ Some y → y ≡ Constant o k → (kind ≡ 256 → ⊥) → eqb kind k ≡ answers kind x
   unfolding answers
-  answer-constant o k e n = rw (e, ne_eqb kind 256 n) refl
+  answer-constant o k y e i n = rw (e, i, ne_eqb kind 256 n) refl
 
-  pub answer-variable : (o : ℕ) → x ≡ Variable o → eqb kind 256 ≡ answers kind x
+  pub answer-variable : (o : ℕ) (y : Operator) → x ≡ Some y → y ≡ Variable o → eqb kind 256 ≡ answers kind x
   unfolding answers
-  answer-variable o e = rw e (go (eqb kind 256))
+  answer-variable o y e i = rw (e, i) (go (eqb kind 256))
     where
-      go : (t : Bool) → t ≡ is_kind (cond t variable (constant kind)) (kind_answered (Variable o))
+      go : (t : Bool) → t ≡ is_kind (cond t variable (constant kind)) (kind_answered (Some (Variable o)))
       go true = refl
       go false = refl
 
-  pub answer-defined : (o : ℕ) → x ≡ Defined o → false ≡ answers kind x
+  pub answer-defined : (o : ℕ) (y : Operator) → x ≡ Some y → y ≡ Defined o → false ≡ answers kind x
   unfolding answers
-  answer-defined o e = rw e refl
+  answer-defined o y e i = rw (e, i) refl
 
-  pub answer-unknown : x ≡ Unknown → false ≡ answers kind x
+  pub answer-unknown : x ≡ None → false ≡ answers kind x
   unfolding answers
   answer-unknown e = rw e refl
 
 -- is_own
-module _ (names facts codes : List ℕ) (o : ℕ) (d : Bool) (e : d ≡ is_declared facts o) where
-  pub own-declared : (name kind : ℕ) (x : Operator) (r : Bool) → d ≡ true → name ≡ get_or names o 0 → kind ≡ get_or facts (column_count * o) 0
+module _ (names : List ℕ) (facts : List Facts) (codes : List ℕ) (o : ℕ) (d : Bool) (e : d ≡ is_declared facts o) where
+  pub own-declared : (name kind : ℕ) (x : Answer Operator) (r : Bool) → d ≡ true → name ≡ get_or names o 0 → kind ≡ kind_at facts o
       → x ≡ operator_in facts (as_code (declared_named names facts name codes)) → r ≡ answers kind x → r ≡ own_kind names facts codes o
   unfolding own_kind
   own-declared name kind x r t n k q a =
@@ -206,7 +187,7 @@ module _ (a : Around) (site : Site) (codes : List ℕ) where
         record { incorrect = left-all is_incorrect cs; unlawful = left-all (is_unlawful b) cs; transition = left-all (is_at 2) cs; temporal = left-all (is_at 3) cs }
 
     module _ (xs : List ℕ) (i end : ℕ) (ds : List ℕ) (seen : Seen) (left : SeenLeft seen (part xs i (end - i)) ds) where
-      pub seen_next : (o l kind : ℕ) (after : Seen) → i < end → o ≡ get_or xs i 0 → LevelFound a site codes o l → kind ≡ get_or a.facts (column_count * o) 0
+      pub seen_next : (o l kind : ℕ) (after : Seen) → i < end → o ≡ get_or xs i 0 → LevelFound a site codes o l → kind ≡ kind_at a.facts o
           → after ≡ seen_with b seen (kind_of kind) l → SeenLeft after (part xs (i + 1) (end - (i + 1))) ds
       unfolding seen_with
       seen_next o l kind after h e f k r =
@@ -237,7 +218,7 @@ seen-whole a site codes b r contexts heads q count e t =
     subst (λ (n : ℕ). LevelsSeen a site codes b (part contexts (q * context_length) n) r) (z ∙ e) t
 
 -- later_cause
-pub later-own : (s refs numbers words names facts contexts heads : List ℕ) (site : Site) (codes gs : List ℕ) (r : ℕ) → numbers ≡ numbers_from 0 max_definitions
+pub later-own : (s refs numbers words names : List ℕ) (facts : List Facts) (contexts heads : List ℕ) (site : Site) (codes gs : List ℕ) (r : ℕ) → numbers ≡ numbers_from 0 max_definitions
     → LaterJudged (around s refs numbers words names facts contexts heads) site codes gs r → LaterJudged (around s refs itselves words names facts contexts heads) site codes gs r
 later-own s refs numbers words names facts contexts heads site codes gs r e j =
     subst (λ (l : List ℕ). LaterJudged (around s refs l words names facts contexts heads) site codes gs r) e j

@@ -13,14 +13,15 @@ use Rattle.context.proofs.Judging.{any-declared-law, any-each, any-map, kind-law
 use Rattle.context.specs.Holds.{Holds, module_no}
 use Rattle.context.specs.Lookup.{as_code, declared_named, instance_among, is_declared, operator_in}
 use Rattle.context.specs.Entries.{codes_of, entry_at, field_code, order_of, variable_kind}
-use Rattle.store.specs.Store.{Store, count_at, first_at, kind_at}
+use Rattle.store.specs.Store.{count_at, first_at, kind_at}
+use Rattle.store.specs.declared.Store.{Store}
+use Rattle.store.specs.declared.Facts.{Facts}
 use Rattle.context.specs.declared.Counts.{Counts}
 use Rattle.entering.specs.Implied.{arguments_of, implied_level, implied_ref}
 use Rattle.entering.specs.Substitutes.{Around, StandsBy, around}
 use Rattle.entering.specs.Written.{written_at}
 use Rattle.entering.specs.declared.substitutes.Site.{Site}
-use Rattle.entering.specs.declared.written.Writing.{Writing}
-use Rattle.entering.specs.declared.written.Writing.TheVariants.{Written, Unwritten}
+use Rattle.std.specs.Prelude.{Option as Answer, Some, None}
 use Rattle.forms.proofs.Reading.{level-pad}
 use Rattle.forms.specs.Forms.{form_at, Gives, level_at}
 use Rattle.laws.proofs.Invariant.{Good, source_known}
@@ -106,7 +107,7 @@ both true b e = (refl, e)
 both false b e = never (sym e)
 
 -- a declaration has its number, so it takes few arguments
-few-arguments : (names facts : List ℕ) (decls : Declarations) → ((d : ℕ) → d < length decls → kind_arity (get_or decls d no_declaration).0 ≤ max_arity) → (o : ℕ)
+few-arguments : (names : List ℕ) (facts : List Facts) (decls : Declarations) → ((d : ℕ) → d < length decls → kind_arity (get_or decls d no_declaration).0 ≤ max_arity) → (o : ℕ)
     → is_declared facts o ≡ true → Numbered facts decls (entry_at names facts o) → kind_arity (kind_of (kind_at facts o)) ≤ max_arity
 unfolding entry_at
 few-arguments names facts decls few o e n = go (ltb o max_definitions) refl (ltb (kind_at facts o) variable_kind) refl (eqb (kind_at facts o) variable_kind) refl n
@@ -150,7 +151,7 @@ module _ (v : Store) (c : Counts) (s : State) (holds : Holds v c s) (fs : List F
   abbrev names : List ℕ
   names = v.names
 
-  abbrev facts : List ℕ
+  abbrev facts : List Facts
   facts = v.facts
 
   abbrev codes : List ℕ
@@ -164,13 +165,13 @@ module _ (v : Store) (c : Counts) (s : State) (holds : Holds v c s) (fs : List F
   around_here = around file refs itselves words v.names v.facts v.contexts v.heads
 
   stands-level : (d : Kind) (x o : ℕ) (f : ℕ) → get_or names o 0 ≡ x → kind_of (kind_at facts o) ≡ d → kind_arity d ≤ max_arity → kind_in M x ≡ some d
-      → (w : Writing) (y : Option Expression) → substitution_for ss x ≡ y → Agrees file refs decls end s w y → StandsBy around_here site_here o w f
+      → (w : Answer ℕ) (y : Option Expression) → substitution_for ss x ≡ y → Agrees file refs decls end s w y → StandsBy around_here site_here o w f
       → WellFormed (arities_of (templates_of s)) (p + kind_arity d) 0 (substitute_or s p d x y)
       → level_at f (zeros (p + kind_arity d)) ≡ level_of s (zeros (p + kind_arity d)) (substitute_or s p d x y)
-  stands-level d x o f en ek l kin (Written a) (some y) z t st w = written-zero words decls s good forms file refs end a (p + kind_arity d) _ f t st w (omega arith)
-  stands-level d x o f en ek l kin (Written a) none z t st w = absurd t
-  stands-level d x o f en ek l kin Unwritten (some y) z t st w = absurd t
-  stands-level d x o f en ek l kin Unwritten none z t st w =
+  stands-level d x o f en ek l kin (Some a) (some y) z t st w = written-zero words decls s good forms file refs end a (p + kind_arity d) _ f t st w (omega arith)
+  stands-level d x o f en ek l kin (Some a) none z t st w = absurd t
+  stands-level d x o f en ek l kin None (some y) z t st w = absurd t
+  stands-level d x o f en ek l kin None none z t st w =
       let h = itself-known s p M ss known d x kin z in
       let r = implied-found v c s holds fs declares-there origins good x h.0 h.1 in
       let ref = implied_ref names facts v.contexts v.heads c.modules x in

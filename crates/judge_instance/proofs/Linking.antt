@@ -12,13 +12,14 @@ use Rattle.context.proofs.Judging.{kind-law, kind_answered}
 use Rattle.context.specs.Holds.{Holds, module_no}
 use Rattle.context.specs.Lookup.{as_code, declared_named, declares_name, is_declared, operator_at, operator_in}
 use Rattle.context.specs.Entries.{after_definitions, codes_of, field_code, variable_kind}
-use Rattle.store.specs.Store.{Store, kind_at, order_slot}
+use Rattle.store.specs.Store.{kind_at, order_slot}
+use Rattle.store.specs.declared.Store.{Store}
+use Rattle.store.specs.declared.Facts.{Facts}
 use Rattle.context.specs.declared.Counts.{Counts}
-use Rattle.context.specs.declared.Operator.TheVariants.{Constant, Variable, Defined, Unknown}
+use Rattle.std.specs.Prelude.{Option as Answer, Some, None}
+use Rattle.context.specs.declared.Operator.TheVariants.{Constant, Variable, Defined}
 use Rattle.entering.proofs.Outset.{kind_number}
 use Rattle.entering.specs.Written.{written_at}
-use Rattle.entering.specs.declared.written.Writing.{Writing}
-use Rattle.entering.specs.declared.written.Writing.TheVariants.{Written, Unwritten}
 use Rattle.instancing.specs.Bringing.{instancing}
 use Rattle.laws.proofs.Invariant.{Good}
 use Rattle.laws.proofs.Origins.{Origins}
@@ -72,12 +73,12 @@ itself-known s p M ss clear k x e none-there = found_at (find (λ (d : Kind × �
         (subst (λ (y : ℕ). stands_for_itself ss y && not (is_some (operator_named (here s) y)) ≡ false) (sym y) u.0))
 
 -- the code that answers what a name is declared as
-kind-there : (facts : List ℕ) (o : ℕ) (k : Kind) → kind_answered (operator_at facts o) ≡ some k → kind_at facts o ≡ kind_number k
+kind-there : (facts : List Facts) (o : ℕ) (k : Kind) → kind_answered (operator_at facts o) ≡ some k → kind_at facts o ≡ kind_number k
 unfolding operator_at
 kind-there facts o k e = go (ltb o max_definitions) (ltb (kind_at facts o) variable_kind) (eqb (kind_at facts o) variable_kind) refl e
   where
     go : (a b d : Bool) → eqb (kind_at facts o) variable_kind ≡ d
-        → kind_answered (cond a (Defined o) (cond b (Constant o (kind_at facts o)) (cond d (Variable o) Unknown))) ≡ some k → kind_at facts o ≡ kind_number k
+        → kind_answered (cond a (Some (Defined o)) (cond b (Some (Constant o (kind_at facts o))) (cond d (Some (Variable o)) None))) ≡ some k → kind_at facts o ≡ kind_number k
     go true b d p q = none-some k q
     go false true d p q = let z : constant (kind_at facts o) ≡ k = cc in ap kind_number z
     go false false true p q =
@@ -155,12 +156,12 @@ module _ (v : Store) (c : Counts) (s : State) (holds : Holds v c s) (fs : List F
         subst (λ u. StandsFor store-after file refs decls end c.modules p d x u (written_at k file at x)) (sym (substitute-declared s p (source s m) ss d x e))
         (go (written_at k file at x) (substitution_for ss x) refl (agrees x))
       where
-        go : (w : Writing) (o : Option Expression) → substitution_for ss x ≡ o → Agrees file refs decls end s w o
+        go : (w : Answer ℕ) (o : Option Expression) → substitution_for ss x ≡ o → Agrees file refs decls end s w o
             → StandsFor store-after file refs decls end c.modules p d x (substitute_or s p d x o) w
-        go (Written a) (some y) z t = t
-        go (Written a) none z t = absurd t
-        go Unwritten (some y) z t = absurd t
-        go Unwritten none z t = implied-after d x e z
+        go (Some a) (some y) z t = t
+        go (Some a) none z t = absurd t
+        go None (some y) z t = absurd t
+        go None none z t = implied-after d x e z
 
     -- The field's link is shown.
     pub link-shown : LinkShown store-after counts-after file refs decls end (link_of s p m ss) (field_code c.fields)

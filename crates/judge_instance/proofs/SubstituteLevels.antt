@@ -16,11 +16,11 @@ use Rattle.laws.proofs.Replacing.{known-below}
 use Rattle.laws.proofs.Sound.{length-templates}
 use Rattle.levels.specs.Tables.{names_of, scene_of}
 use Rattle.levels.specs.Walk.{TextForm}
-use Rattle.limits.specs.Limits.{max_definitions, max_nesting}
+use Rattle.limits.specs.Limits.{max_definitions}
 use Rattle.rules.specs.State.{State, card_level, level_of, templates_of, zeros}
 use Rattle.standing.specs.Shown.{TextShown}
 use Rattle.standing.specs.Standing.{itselves}
-use Rattle.text_levels.proofs.OwnWorld.{Shows, Tokens, own-level, tokens-found}
+use Rattle.text_levels.proofs.OwnWorld.{Shows, own-level}
 use Rattle.texts.specs.Text.{Declarations, named, no_declaration, ref_head}
 use Rattle.theory.specs.Level.{IsLevel, binds_in, highest, incorrect, plain, top}
 use Rattle.theory.proofs.Lists.{replicate-all}
@@ -64,9 +64,8 @@ module _ (words : List ℕ) (decls : Declarations) (s : State) (good : Good s) (
   pub written-zero : (file refs : List ℕ) (end at n : ℕ) (u : Term) (f : ℕ) → TextShown file refs decls end at u → TextForm (names_of refs itselves words 0) file at f
       → WellFormed (arities_of (templates_of s)) n 0 u → n ≤ width → level_at f (zeros n) ≡ level_of s (zeros n) u
   written-zero file refs end at n u f t form formed short =
-      let tokens : Tokens t.text = rw t.stands at (tokens-found max_nesting file at) in
       form.level t.text t.next t.stands (zeros n) (rw (zeros-length n) short) (zeros-low n)
-      ∙ own-level refs decls (scene_of itselves words) s good forms n (zeros n) (zeros-length n ∙ sym (zero-add n)) (zeros-low n) t.text u tokens t.below t.same formed
+      ∙ own-level refs decls (scene_of itselves words) s good forms n (zeros n) (zeros-length n ∙ sym (zero-add n)) (zeros-low n) t.text u t.below t.same formed
 
   -- one that is implied: the operator r at the parameters after p
   pub implied-zero : (r p : ℕ) (k : Kind) (f : ℕ) → Gives f (implied_level itselves words r 0 p (kind_arity k)) → r < max_definitions + length decls

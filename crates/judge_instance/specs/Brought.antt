@@ -1,6 +1,7 @@
 -- What bringing leaves: the store with the field added, the forms of what it brought, and the answer.
-use Rattle.std.specs.Prelude.{List, ◌≡◌, ℕ, ◌+◌, ◌*◌, ◌≤◌, ◌<◌, get_or, length}
-use Rattle.store.specs.Store.{Store, context_slot, order_slot}
+use Rattle.std.specs.Prelude.{List, ◌≡◌, ℕ, ◌+◌, ◌*◌, ◌≤◌, ◌<◌, get_or}
+use Rattle.store.specs.Store.{context_slot, order_slot}
+use Rattle.store.specs.declared.Store.{Store}
 use Rattle.context.specs.Entries.{after_definitions, context_codes, order_of}
 use Rattle.context.specs.declared.Counts.{Counts}
 use Rattle.chains.specs.Results.{BroughtForms}
@@ -10,7 +11,6 @@ use Rattle.judge_plain.specs.Causes.{judged, refusal}
 use Rattle.judge_plain.specs.declared.Judged.{Judged}
 use Rattle.judge_plain.specs.declared.Phase.{Phase}
 use Rattle.judge_plain.specs.declared.Phase.TheVariants.{Inside}
-use Rattle.levels.specs.Tables.{table_words}
 use Rattle.limits.specs.Limits.{file_bytes, max_arity, max_declarations, max_definitions, max_modules}
 use Rattle.limits.specs.Sizes.{context_length, max_fields}
 use Rattle.standing.specs.Shown.{owner_shift}
@@ -24,7 +24,6 @@ pub record FieldBrought (file refs : List ℕ) (v v' : Store) (c : Counts) (name
 
 -- what bringing asks: room for what is brought
 pub record Bringable (v : Store) (words : List ℕ) (c : Counts) (p q at : ℕ) : Type 0 where
-  pub words_size : length words ≡ table_words
   pub modules : c.modules ≤ max_modules
   pub earlier : q < c.modules
   pub fields : c.fields < max_fields

@@ -4,6 +4,8 @@ use Rattle.std.specs.Prelude.{Bool, ◌&&◌, ◌||◌, false, not, true, List, 
 use Rattle.context.proofs.Judging.{kind_answered, kind_of}
 use Rattle.context.specs.Lookup.{as_code, declared_named, instance_among, is_declared, operator_in}
 use Rattle.store.specs.Store.{kind_at}
+use Rattle.store.specs.declared.Facts.{Facts}
+use Rattle.std.specs.Prelude.{Option as Answer}
 use Rattle.context.specs.declared.Operator.{Operator}
 use Rattle.entering.specs.Substitutes.{Around, Stands}
 use Rattle.entering.specs.declared.substitutes.Site.{Site}
@@ -19,11 +21,11 @@ use Rattle.judge_instance.specs.Constancy.{constant_codes}
 use Rattle.judge_instance.specs.declared.lawful.Seen.{Seen}
 
 -- a kind is the one that a name is declared as
-unfoldable pub answers : ℕ → Operator → Bool
+unfoldable pub answers : ℕ → Answer Operator → Bool
 answers kind x = is_kind (kind_of kind) (kind_answered x)
 
 -- o is a declaration, and its name is declared among the codes as what o is
-unfoldable pub own_kind : List ℕ → List ℕ → List ℕ → ℕ → Bool
+unfoldable pub own_kind : List ℕ → List Facts → List ℕ → ℕ → Bool
 own_kind names facts codes o = is_declared facts o && answers (kind_at facts o) (operator_in facts (as_code (declared_named names facts (get_or names o 0) codes)))
 
 -- a level is that of what stands for o

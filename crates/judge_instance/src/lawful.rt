@@ -1,27 +1,26 @@
 // The causes that come after the names: 12, 14 and 21 by the levels, with parameters at 0, of what stands for the declarations of the module instanced,
 // seen in one walk over them; then 16.
-ghost use Rattle.std.specs.Prelude.{◌&&◌, ◌||◌, ◌≡◌, ◌-◌, ◌*◌, ◌≤◌, length};
+ghost use Rattle.std.specs.Prelude.{◌&&◌, ◌||◌, ◌≡◌, ◌-◌, ◌*◌, ◌≤◌};
 ghost use Rattle.limits.specs.Limits.{max_modules};
 ghost use Rattle.limits.specs.Sizes.{context_length};
 ghost use Rattle.context.proofs.Judging.{kind_of};
 ghost use Rattle.context.specs.Parts.{part};
 ghost use Rattle.context.specs.Entries.{context_codes, order_of};
 ghost use Rattle.instance_names.specs.Causes.{first_number};
+ghost use Rattle.judge_plain.specs.Causes.{found_number};
 ghost use Rattle.entering.specs.Substitutes.{Fitting, around};
-ghost use Rattle.levels.specs.Tables.{table_words};
 ghost use Rattle.rules.specs.Instance.{lawful};
 ghost use Rattle.standing.specs.Standing.{itselves};
 ghost use Rattle.judge_instance.specs.Levels.{LaterJudged, LevelFound, LevelsSeen, answers, is_free, is_mixed, later_causes, own_kind, seen_with};
-ghost use Rattle.store.specs.Store.{held};
 
 use crate::constancy::is_constant;
 use context::lookup::{find_declared, has_named_instance, is_declared};
 use context::{Kinds, Operator};
 use entering::substitutes::{Site, substitute_form};
 use forms::levels::level_at_zero;
+use judge_plain::Cause;
 use levels::names::identity;
 use limits::Limits;
-use store::reading::{context_at, fact_at, head_at, name_at};
 use store::{Lent, Store};
 
 // What was seen among the levels of substitutes: a 4, one that is not lawful, a 2, a 3.
@@ -34,6 +33,7 @@ pub struct Seen {
 }
 
 // What the walk over the declarations of the module instanced inherits: where the field stands, the module's number, whether it is constant.
+// `constant` is a fact of the module: its number and the field's place stand whether it holds or not.
 #[derive(Clone, Copy)]
 pub struct Walk {
     pub site: Site,
@@ -45,10 +45,7 @@ pub struct Walk {
 fn is_free(constant: bool, kind: u16) -> bool
     ensures { result ≡ is_free constant kind }
 {
-    if kind == 0 {
-        return constant;
-    }
-    false
+    kind == 0 && constant
 }
 
 // Whether a substitute of this level may stand for a declaration of this kind.
@@ -64,36 +61,16 @@ fn is_lawful(constant: bool, kind: u16, level: u8) -> bool
     level == 0
 }
 
-// Whether one of two tests holds.
-fn either(a: bool, b: bool) -> bool
-    ensures { result ≡ (a || b) }
-{
-    if a {
-        return true;
-    }
-    b
-}
-
-// Whether both of two tests hold.
-fn both(a: bool, b: bool) -> bool
-    ensures { result ≡ (a && b) }
-{
-    if a {
-        return b;
-    }
-    false
-}
-
 // What was seen with one level more, of what stands for a declaration of this kind.
 fn with_level(seen: Seen, constant: bool, kind: u16, level: u8) -> Seen
     ensures { result ≡ seen_with constant seen (kind_of kind) level }
 {
     let lawful = is_lawful(constant, kind, level);
     Seen {
-        incorrect: either(seen.incorrect, level == 4),
-        unlawful: either(seen.unlawful, !lawful),
-        transition: either(seen.transition, level == 2),
-        temporal: either(seen.temporal, level == 3),
+        incorrect: seen.incorrect | (level == 4),
+        unlawful: seen.unlawful | !lawful,
+        transition: seen.transition | (level == 2),
+        temporal: seen.temporal | (level == 3),
     }
 }
 
@@ -101,57 +78,51 @@ fn with_level(seen: Seen, constant: bool, kind: u16, level: u8) -> Seen
 fn is_mixed(constant: bool, seen: Seen) -> bool
     ensures { result ≡ is_mixed constant seen }
 {
-    if constant {
-        return both(seen.transition, seen.temporal);
-    }
-    false
+    constant && seen.transition && seen.temporal
 }
 
 // The first of these causes that holds, by what was seen and by whether the module instanced has a named instance.
-fn cause_seen(constant: bool, seen: Seen, named: bool) -> u8
-    ensures { result ≡ first_number (later_causes constant seen named) }
+fn cause_seen(constant: bool, seen: Seen, named: bool) -> Result<(), Cause>
+    ensures { found_number result ≡ first_number (later_causes constant seen named) }
 {
     let mixed = is_mixed(constant, seen);
     if seen.incorrect {
-        return 12;
+        return Err(Cause::IllLevelled);
     }
     if seen.unlawful {
-        return 14;
+        return Err(Cause::SubstituteUnlawful);
     }
     if mixed {
-        return 21;
+        return Err(Cause::Mixed);
     }
     if named {
-        return 16;
+        return Err(Cause::NamedInstance);
     }
-    0
+    Ok(())
 }
 
 // Whether a name is declared as this kind.
-fn is_answer(kind: u16, x: Operator) -> bool
+fn is_answer(kind: u16, x: Option<Operator>) -> bool
     ensures { result ≡ answers kind x }
 {
-    match x {
-        Operator::Constant(_, k) => {
-            if kind == Kinds::VARIABLE {
-                return false;
-            }
-            kind == k
-        }
+    let Some(found) = x else {
+        return false;
+    };
+    match found {
+        Operator::Constant(_, k) => kind != Kinds::VARIABLE && kind == k,
         Operator::Variable(_) => kind == Kinds::VARIABLE,
         Operator::Defined(_) => false,
-        Operator::Unknown => false,
     }
 }
 
 // Whether o is a declaration, and module q declares its name as what o is.
-fn is_own(store: &[u16; Store::LENGTH], q: usize, o: u16) -> bool
+fn is_own(store: &Store, q: usize, o: u16) -> bool
     requires { q ≤ max_modules }
-    ensures { result ≡ own_kind (held store.now).names (held store.now).facts (context_codes (held store.now).contexts (held store.now).heads q) o }
+    ensures { result ≡ own_kind store.now.names store.now.facts (context_codes store.now.contexts store.now.heads q) o }
 {
     if is_declared(store, o) {
-        let name = name_at(store, o as usize);
-        let kind = fact_at(store, Limits::COLUMNS * (o as usize));
+        let name = store.name_at(o as usize);
+        let kind = store.kind_at(o as usize);
         return is_answer(kind, find_declared(store, q, name));
     }
     false
@@ -163,12 +134,12 @@ fn level_found(
     refs: &[u16; Lent::REFS],
     numbers: &[u16],
     words: &[u64; Lent::WORDS],
-    store: &[u16; Store::LENGTH],
+    store: &Store,
     w: Walk,
     o: u16,
 ) -> u8
-    requires { (length words.now ≡ table_words) × Fitting w.site × (w.q ≤ max_modules) }
-    ensures { LevelFound (around s.now refs.now numbers.now words.now (held store.now).names (held store.now).facts (held store.now).contexts (held store.now).heads) w.site (context_codes (held store.now).contexts (held store.now).heads w.q) o result }
+    requires { Fitting w.site × (w.q ≤ max_modules) }
+    ensures { LevelFound (around s.now refs.now numbers.now words.now store.now.names store.now.facts store.now.contexts store.now.heads) w.site (context_codes store.now.contexts store.now.heads w.q) o result }
 {
     if is_own(store, w.q, o) {
         return level_at_zero(substitute_form(s, refs, numbers, words, store, w.site, o));
@@ -182,12 +153,12 @@ fn seen_among(
     refs: &[u16; Lent::REFS],
     numbers: &[u16],
     words: &[u64; Lent::WORDS],
-    store: &[u16; Store::LENGTH],
+    store: &Store,
     w: Walk,
     end: usize,
 ) -> Seen
-    requires { (length words.now ≡ table_words) × Fitting w.site × (w.q ≤ max_modules) }
-    ensures { LevelsSeen (around s.now refs.now numbers.now words.now (held store.now).names (held store.now).facts (held store.now).contexts (held store.now).heads) w.site (context_codes (held store.now).contexts (held store.now).heads w.q) w.constant (part (held store.now).contexts (w.q * context_length) (end - w.q * context_length)) result }
+    requires { Fitting w.site × (w.q ≤ max_modules) }
+    ensures { LevelsSeen (around s.now refs.now numbers.now words.now store.now.names store.now.facts store.now.contexts store.now.heads) w.site (context_codes store.now.contexts store.now.heads w.q) w.constant (part store.now.contexts (w.q * context_length) (end - w.q * context_length)) result }
 {
     let mut seen = Seen {
         incorrect: false,
@@ -195,13 +166,11 @@ fn seen_among(
         transition: false,
         temporal: false,
     };
-    let mut i = w.q * Limits::CONTEXT;
-    while i < end {
-        let o = context_at(store, i);
+    for i in w.q * Limits::CONTEXT..end {
+        let o = store.context_at(i);
         let level = level_found(s, refs, numbers, words, store, w, o);
-        let kind = fact_at(store, Limits::COLUMNS * (o as usize));
+        let kind = store.kind_at(o as usize);
         seen = with_level(seen, w.constant, kind, level);
-        i += 1;
     }
     seen
 }
@@ -212,13 +181,13 @@ fn levels_seen(
     refs: &[u16; Lent::REFS],
     numbers: &[u16],
     words: &[u64; Lent::WORDS],
-    store: &[u16; Store::LENGTH],
+    store: &Store,
     w: Walk,
 ) -> Seen
-    requires { (length words.now ≡ table_words) × Fitting w.site × (w.q ≤ max_modules) }
-    ensures { LevelsSeen (around s.now refs.now numbers.now words.now (held store.now).names (held store.now).facts (held store.now).contexts (held store.now).heads) w.site (context_codes (held store.now).contexts (held store.now).heads w.q) w.constant (context_codes (held store.now).contexts (held store.now).heads w.q) result }
+    requires { Fitting w.site × (w.q ≤ max_modules) }
+    ensures { LevelsSeen (around s.now refs.now numbers.now words.now store.now.names store.now.facts store.now.contexts store.now.heads) w.site (context_codes store.now.contexts store.now.heads w.q) w.constant (context_codes store.now.contexts store.now.heads w.q) result }
 {
-    let count = head_at(store, Limits::PLACES + w.q) as usize;
+    let count = store.head_at(Limits::PLACES + w.q) as usize;
     seen_among(
         s,
         refs,
@@ -236,12 +205,12 @@ fn cause_in(
     refs: &[u16; Lent::REFS],
     numbers: &[u16],
     words: &[u64; Lent::WORDS],
-    store: &[u16; Store::LENGTH],
+    store: &Store,
     site: Site,
     q: usize,
-) -> u8
-    requires { (length words.now ≡ table_words) × Fitting site × (q ≤ max_modules) }
-    ensures { LaterJudged (around s.now refs.now numbers.now words.now (held store.now).names (held store.now).facts (held store.now).contexts (held store.now).heads) site (context_codes (held store.now).contexts (held store.now).heads q) (order_of (held store.now).orders (held store.now).heads q) result }
+) -> Result<(), Cause>
+    requires { Fitting site × (q ≤ max_modules) }
+    ensures { LaterJudged (around s.now refs.now numbers.now words.now store.now.names store.now.facts store.now.contexts store.now.heads) site (context_codes store.now.contexts store.now.heads q) (order_of store.now.orders store.now.heads q) (found_number result) }
 {
     let constant = is_constant(words, store, q);
     let w = Walk { site, q, constant };
@@ -255,12 +224,12 @@ pub fn later_cause(
     s: &[u8],
     refs: &[u16; Lent::REFS],
     words: &[u64; Lent::WORDS],
-    store: &[u16; Store::LENGTH],
+    store: &Store,
     site: Site,
     q: usize,
-) -> u8
-    requires { (length words.now ≡ table_words) × Fitting site × (q ≤ max_modules) }
-    ensures { LaterJudged (around s.now refs.now itselves words.now (held store.now).names (held store.now).facts (held store.now).contexts (held store.now).heads) site (context_codes (held store.now).contexts (held store.now).heads q) (order_of (held store.now).orders (held store.now).heads q) result }
+) -> Result<(), Cause>
+    requires { Fitting site × (q ≤ max_modules) }
+    ensures { LaterJudged (around s.now refs.now itselves words.now store.now.names store.now.facts store.now.contexts store.now.heads) site (context_codes store.now.contexts store.now.heads q) (order_of store.now.orders store.now.heads q) (found_number result) }
 {
     let mut numbers = [0u16; Limits::DEFINITIONS];
     identity(&mut numbers);

@@ -7,7 +7,6 @@ pub mod lawful;
 
 ghost use Rattle.fields.specs.declared.Parts.TheVariants.{Instance as InstanceParts};
 ghost use Rattle.standing.specs.Standing.{Judging, Underway};
-ghost use Rattle.store.specs.Store.{held};
 
 use crate::adding::lawful_field;
 use context::Counts;
@@ -19,19 +18,18 @@ use store::{Lent, Store};
 // An INSTANCE field.
 pub fn instance_field(
     file: &[u8],
-    store: &mut [u16; Store::LENGTH],
+    store: &mut Store,
     refs: &mut [u16; Lent::REFS],
     words: &mut [u64; Lent::WORDS],
     phase: Phase,
     c: Counts,
     f: Instance,
 ) -> Judged
-    requires { Underway file.now (held store.old) c phase refs.old words.old (InstanceParts f.name f.params f.source f.count f.at) }
-    ensures { Judging file.now (InstanceParts f.name f.params f.source f.count f.at) (held store.old) (held store.new) c phase result refs.old refs.new words.old words.new }
+    requires { Underway file.now store.old c phase refs.old words.old (InstanceParts f.name f.params f.source f.count f.at) }
+    ensures { Judging file.now (InstanceParts f.name f.params f.source f.count f.at) store.old store.new c phase result refs.old refs.new words.old words.new }
 {
-    let cause = instance_cause(file, store, refs, phase, c, f);
-    if cause != 0 {
-        return refused(cause, phase, c);
+    if let Err(cause) = instance_cause(file, store, refs, phase, c, f) {
+        return refused(cause.number(), phase, c);
     }
     let q = find_module(store, c.modules, f.source);
     lawful_field(file, store, refs, words, phase, c, f, q)

@@ -6,10 +6,10 @@ use mathlib.Core.Path.{◌∙◌, ◌≡◌, ap, refl, sym}
 use lib.Dec.{eqb, leb, ltb}
 use native.Mathlib.Omega.{arith}
 use Prim.Native.Nat.{◌<◌, ◌≤◌, ℕ}
-use Rattle.context.specs.declared.Code.TheVariants.{Absent, At}
-use Rattle.context.specs.declared.Code.{Code}
+use Rattle.std.specs.Prelude.{Option as Answer, is_some as found}
+use Rattle.theory.specs.Lists.{is_some}
 use Rattle.context.specs.declared.Counts.{Counts}
-use Rattle.context.proofs.Repeats.{code-none, code-some}
+use Rattle.context.proofs.Repeats.{found-some}
 use Rattle.context.specs.Lookup.{as_code, code_named}
 use Rattle.context.specs.Parts.{part, place_of}
 use Rattle.context.specs.Entries.{codes_of}
@@ -17,7 +17,7 @@ use Rattle.judge_plain.specs.Causes.{answer, declaration_cause, early, end_cause
 use Rattle.judge_plain.specs.declared.Judged.{Judged}
 use Rattle.judge_plain.specs.declared.Phase.TheVariants.{Begun, Inside, Outside}
 use Rattle.judge_plain.specs.declared.Phase.{Phase}
-use Rattle.store.specs.Store.{Store}
+use Rattle.store.specs.declared.Store.{Store}
 use Rattle.limits.specs.Limits.{max_arity, max_declarations, max_modules}
 
 -- a cause was found: nothing changes
@@ -40,17 +40,20 @@ answer-taken cause w p q c d d' e h k = rw (← e, h) (ap (judged 0 q) k)
 
 -- a declaration's name is in the context, or not
 module _ (p : Phase) (c : Counts) (v : Store) (tag arity name : ℕ) (a : Bool) (first : a ≡ early p tag) (in_order : a ≡ false)
-    (few : c.declarations < max_declarations) (small : arity ≤ max_arity) (found : Code)
-    (looked : found ≡ as_code (code_named v.names name (codes_of v c.modules))) where
-  pub name-there : (o : ℕ) → found ≡ At o → 8 ≡ declaration_cause p c v tag arity name
-  unfolding declaration_cause
-  name-there o e =
-      rw (← first, in_order, lt-leb max_declarations c.declarations few, le-ltb max_arity arity small, code-some (code_named v.names name (codes_of v c.modules)) found o looked e)
+    (few : c.declarations < max_declarations) (small : arity ≤ max_arity) (q : Answer ℕ)
+    (looked : q ≡ as_code (code_named v.names name (codes_of v c.modules))) (b : Bool) (there : b ≡ found q) where
+  known : is_some (code_named v.names name (codes_of v c.modules)) ≡ b
+  known = sym (there ∙ ap found looked ∙ found-some (code_named v.names name (codes_of v c.modules)))
 
-  pub name_free : found ≡ Absent → 0 ≡ declaration_cause p c v tag arity name
+  pub name-there : b ≡ true → 8 ≡ declaration_cause p c v tag arity name
+  unfolding declaration_cause
+  name-there e =
+      rw (← first, in_order, lt-leb max_declarations c.declarations few, le-ltb max_arity arity small, known ∙ e)
+
+  pub name_free : b ≡ false → 0 ≡ declaration_cause p c v tag arity name
   unfolding declaration_cause
   name_free e =
-      rw (← first, in_order, lt-leb max_declarations c.declarations few, le-ltb max_arity arity small, code-none (code_named v.names name (codes_of v c.modules)) found looked e)
+      rw (← first, in_order, lt-leb max_declarations c.declarations few, le-ltb max_arity arity small, known ∙ e)
 
 -- the order of fields, by the phase
 pub early-outside : (p : Phase) (tag : ℕ) → p ≡ Outside → not (eqb tag 1) ≡ early p tag

@@ -15,7 +15,7 @@ use Rattle.context.specs.Holds.{Holds}
 use Rattle.context.specs.Lookup.{repeated_in}
 use Rattle.context.specs.Parts.{part, place_of}
 use Rattle.context.specs.Entries.{after_field, codes_of, entry_at}
-use Rattle.store.specs.Store.{Store}
+use Rattle.store.specs.declared.Store.{Store}
 use Rattle.context.specs.declared.Counts.{Counts}
 use Rattle.judge_plain.proofs.Joins.{names-turn}
 use Rattle.judge_plain.proofs.Lifted.{ended-law, order-law, three}
@@ -108,7 +108,7 @@ module _ (v : Store) (p : Phase) (c : Counts) (a : Bool) (first : a ≡ early p 
 
   module _ (in_order : a ≡ false) (file : List ℕ) (at count : ℕ) (some-names : 1 ≤ count) (b : Bool) (second : b ≡ missing_in v.heads c.modules (names_at file at count)) where
     listed : names_at file at count ≡ number_at file at ∷ names_at file (at + 2) (count - 1)
-    listed = names-turn file at count (omega arith)
+    listed = names-turn file at count (count - 1) (omega arith)
 
     missing-now : (s : State) → Holds v c s → b ≡ any (not_ended s) (number_at file at ∷ names_at file (at + 2) (count - 1))
     missing-now s h = second ∙ missing-law v c s h (names_at file at count) ∙ ap (any (not_ended s)) listed
@@ -221,9 +221,9 @@ module _ (p : Phase) (modules : ℕ) (heads ns : List ℕ) (a : Bool) (e : a ≡
   unfolding extends_cause
   cause-none h = rw (← e, f, ← g, h)
 
-pub joined-twice : (d w : Bool) (p : Phase) (c : Counts) (r : Judged) → d ≡ w → d ≡ true → r ≡ refusal 8 p c → r ≡ joined_answer w p c
+pub joined-twice : (d w : Bool) (p : Phase) (c : Counts) (r : Judged) (n : ℕ) → d ≡ w → d ≡ true → n ≡ 8 → r ≡ refusal n p c → r ≡ joined_answer w p c
 unfolding joined_answer
-joined-twice d w p c r e f g = rw (← e, f) g
+joined-twice d w p c r n e f k g = rw (← e, f, ← k) g
 
 pub joined_once : (d w : Bool) (p : Phase) (c after : Counts) → d ≡ w → d ≡ false → after ≡ after_field c → judged 0 Inside after ≡ joined_answer w p c
 unfolding joined_answer

@@ -1,5 +1,5 @@
 -- EXTENDS, a name at a time.
-use borrow.Author.Tests.{le-ltb, lt-ltb, ltb-true}
+use borrow.Author.Tests.{ltb-true}
 use mathlib.Core.Bool.{Bool, ◌||◌, false, not, true}
 use mathlib.Core.List.{List, [], ◌∷◌}
 use mathlib.Core.Path.{◌∙◌, ◌≡◌, ap, refl, subst, subst⁻¹, sym}
@@ -15,11 +15,12 @@ use Rattle.context.specs.Holds.{Holds}
 use Rattle.context.specs.Joining.{Extendable, Extended, Marked, module_joined}
 use Rattle.context.specs.Parts.{part, place_of}
 use Rattle.context.specs.Entries.{codes_of, order_of}
-use Rattle.store.specs.Store.{Store, context_slot, order_slot}
+use Rattle.store.specs.Store.{context_slot, order_slot}
+use Rattle.store.specs.declared.Store.{Store}
 use Rattle.store.specs.Updates.{with_contexts, with_heads, with_orders}
 use Rattle.context.specs.declared.Counts.{Counts}
 use Rattle.judge_plain.proofs.Lifted.{ended-law}
-use Rattle.judge_plain.specs.Extending.{Framed, Joinable, Joined, missing_in, with_open}
+use Rattle.judge_plain.specs.Extending.{Framed, Joinable, Joined, with_open}
 use Rattle.limits.specs.Limits.{max_definitions}
 use Rattle.limits.specs.Sizes.{context_length}
 use Rattle.rules.specs.Add.{extended_module}
@@ -28,34 +29,31 @@ use Rattle.rules.specs.Judge.{not_ended}
 use Rattle.rules.specs.State.{Module, State, module_named}
 use Rattle.theory.proofs.Lists.{or-false}
 use Rattle.theory.specs.Lists.{All, any, is_some}
+use Rattle.std.specs.List.{list_any, range_with_len}
 use Rattle.tokens.specs.Token.{number_at}
 
 -- names by position
-pub names-turn : (file : List ℕ) (pos left : ℕ) → 0 < left → names_at file pos left ≡ number_at file pos ∷ names_at file (pos + 2) (left - 1)
-names-turn file pos zero h = absurd (omega arith)
-names-turn file pos (suc k) h = let d : suc k - 1 ≡ k = omega arith in rw d refl
+pub names-turn : (file : List ℕ) (pos left rest : ℕ) → left ≡ suc rest → names_at file pos left ≡ number_at file pos ∷ names_at file (pos + 2) rest
+names-turn file pos left rest d = rw d refl
 
-pub names-end : (file : List ℕ) (pos left : ℕ) → left ≤ 0 → names_at file pos left ≡ []
-names-end file pos left h = let d : left ≡ 0 = omega arith in rw d refl
+names-step : (file : List ℕ) (at i count : ℕ) → i < count
+    → names_at file (at + 2 * i) (count - i) ≡ number_at file (at + 2 * i) ∷ names_at file (at + 2 * (i + 1)) (count - (i + 1))
+names-step file at i count h =
+    let p : at + 2 * (i + 1) ≡ at + 2 * i + 2 = omega arith in
+    rw p (names-turn file (at + 2 * i) (count - i) (count - (i + 1)) (omega arith))
 
--- 7
+names-end : (file : List ℕ) (pos i count : ℕ) → count ≤ i → names_at file pos (count - i) ≡ []
+names-end file pos i count h = let d : count - i ≡ 0 = omega arith in rw d refl
 
-module _ (heads : List ℕ) (modules : ℕ) (file : List ℕ) (pos left n q : ℕ) (w : Bool) (e : missing_in heads modules (names_at file pos left) ≡ w) (more : 0 < left)
-    (read : n ≡ number_at file pos) (found : q ≡ place_of n (part heads 0 modules)) where
-  missing-turn : not (ltb q modules) || missing_in heads modules (names_at file (pos + 2) (left - 1)) ≡ w
-  unfolding missing_in
-  missing-turn =
-      rw (found, read) (sym (ap (any (λ (n : ℕ). not (ltb (place_of n (part heads 0 modules)) modules))) (names-turn file pos left more)) ∙ e)
+-- 7: a search over the names' numbers is one over the names
+any-from : (t : ℕ → Bool) (file : List ℕ) (at i n : ℕ) → list_any (λ j. t (number_at file (at + 2 * j))) (range_with_len i n) ≡ any t (names_at file (at + 2 * i) n)
+any-from t file at i zero = refl
+any-from t file at i (suc n) =
+    let p : at + 2 * (i + 1) ≡ at + 2 * i + 2 = omega arith in
+    ap (λ (b : Bool). t (number_at file (at + 2 * i)) || b) (any-from t file at (i + 1) n ∙ ap (λ (k : ℕ). any t (names_at file k n)) p)
 
-  pub missing-hit : modules ≤ q → true ≡ w
-  missing-hit h = sym (ap (λ (b : Bool). not b || missing_in heads modules (names_at file (pos + 2) (left - 1))) (le-ltb q modules h)) ∙ missing-turn
-
-  pub missing-next : q < modules → missing_in heads modules (names_at file (pos + 2) (left - 1)) ≡ w
-  missing-next h = sym (ap (λ (b : Bool). not b || missing_in heads modules (names_at file (pos + 2) (left - 1))) (lt-ltb q modules h)) ∙ missing-turn
-
-pub missing-end : (heads : List ℕ) (modules : ℕ) (file : List ℕ) (pos left : ℕ) (w : Bool) → missing_in heads modules (names_at file pos left) ≡ w → left ≤ 0 → false ≡ w
-unfolding missing_in
-missing-end heads modules file pos left w e h = sym (ap (any (λ (n : ℕ). not (ltb (place_of n (part heads 0 modules)) modules))) (names-end file pos left h)) ∙ e
+pub any-names : (t : ℕ → Bool) (file : List ℕ) (at n : ℕ) → list_any (λ j. t (number_at file (at + 2 * j))) (range_with_len 0 n) ≡ any t (names_at file at n)
+any-names t file at n = let p : at + 2 * 0 ≡ at = omega arith in any-from t file at 0 n ∙ ap (λ (k : ℕ). any t (names_at file k n)) p
 
 -- joining
 
@@ -100,18 +98,22 @@ pub record Joining (v₀ v : Store) (marks tally : List ℕ) (c : Counts) (all l
   pub shows : (s : State) → Holds v₀ c s → (M : Module) × Holds v c (with_open s M) × (extended_from s left M ≡ extended_module s all)
   pub frame : Framed v₀ v
 
-pub join-start : (v : Store) (marks tally : List ℕ) (c : Counts) (ms : List ℕ) → Joinable v marks tally c ms → Joining v v marks tally c ms ms
-join-start v marks tally c ms j = record { now = j; shows = λ s h. (s.current, same-state s h, refl); frame = refl }
+pub join-start : (v : Store) (marks tally : List ℕ) (c : Counts) (file : List ℕ) (at count : ℕ) → Joinable v marks tally c (names_at file at count)
+    → Joining v v marks tally c (names_at file at count) (names_at file (at + 2 * 0) (count - 0))
+join-start v marks tally c file at count j =
+    let p : at + 2 * 0 ≡ at = omega arith in
+    let d : count - 0 ≡ count = omega arith in
+    rw (p, d) (record { now = j; shows = λ s h. (s.current, same-state s h, refl); frame = refl })
   where
     same-state : (s : State) → Holds v c s → Holds v c (with_open s s.current)
     same-state s h = h
 
-pub join-done : (v₀ v : Store) (marks tally : List ℕ) (c : Counts) (file all : List ℕ) (pos left : ℕ)
-    → Joining v₀ v marks tally c all (names_at file pos left) → left ≤ 0 → Joined v₀ v c all
-join-done v₀ v marks tally c file all pos left j h = record {
+pub join-done : (v₀ v : Store) (marks tally : List ℕ) (c : Counts) (file all : List ℕ) (at i count : ℕ)
+    → Joining v₀ v marks tally c all (names_at file (at + 2 * i) (count - i)) → count ≤ i → Joined v₀ v c all
+join-done v₀ v marks tally c file all at i count j h = record {
   shows = λ s k.
       let m = j.shows s k in
-      let e : m.0 ≡ extended_module s all = sym (ap (λ (l : List ℕ). extended_from s l m.0) (names-end file pos left h)) ∙ m.2 in
+      let e : m.0 ≡ extended_module s all = sym (ap (λ (l : List ℕ). extended_from s l m.0) (names-end file (at + 2 * i) i count h)) ∙ m.2 in
       subst (λ (M : Module). Holds v c (with_open s M)) e m.1;
   frame = j.frame;
 }
@@ -122,12 +124,12 @@ framed-next u v w l e f =
     f ∙ ap (λ (x : Store). with_heads (with_orders (with_contexts x w.contexts) w.orders) l) e
     ∙ ap (λ (h : List ℕ). with_heads (with_orders (with_contexts u w.contexts) w.orders) h) (sym (ap (λ (x : Store). x.heads) f))
 
-module _ (v₀ v : Store) (marks tally : List ℕ) (c : Counts) (file all : List ℕ) (pos left n q : ℕ)
-    (j : Joining v₀ v marks tally c all (names_at file pos left)) (more : 0 < left) (read : n ≡ number_at file pos) (found : q ≡ place_of n (part v.heads 0 c.modules)) where
-  split : names_at file pos left ≡ n ∷ names_at file (pos + 2) (left - 1)
-  split = names-turn file pos left more ∙ ap (λ (i : ℕ). i ∷ names_at file (pos + 2) (left - 1)) (sym read)
+module _ (v₀ v : Store) (marks tally : List ℕ) (c : Counts) (file all : List ℕ) (at i count n q : ℕ)
+    (j : Joining v₀ v marks tally c all (names_at file (at + 2 * i) (count - i))) (more : i < count) (read : n ≡ number_at file (at + 2 * i)) (found : q ≡ place_of n (part v.heads 0 c.modules)) where
+  split : names_at file (at + 2 * i) (count - i) ≡ n ∷ names_at file (at + 2 * (i + 1)) (count - (i + 1))
+  split = names-step file at i count more ∙ ap (λ (k : ℕ). k ∷ names_at file (at + 2 * (i + 1)) (count - (i + 1))) (sym read)
 
-  ended : (not_ended j.now.s n ≡ false) × (any (not_ended j.now.s) (names_at file (pos + 2) (left - 1)) ≡ false)
+  ended : (not_ended j.now.s n ≡ false) × (any (not_ended j.now.s) (names_at file (at + 2 * (i + 1)) (count - (i + 1))) ≡ false)
   ended = or-false (not_ended j.now.s n) _ (sym (ap (any (not_ended j.now.s)) split) ∙ j.now.found)
 
   pub join-earlier : q < c.modules
@@ -148,7 +150,7 @@ module _ (v₀ v : Store) (marks tally : List ℕ) (c : Counts) (file all : List
     joined-one : (s : State) → Holds v c s → Holds v' c (with_open s (module_joined s.current (source s n)))
     joined-one s h = join_one v c s h n q found v' marks' tally' x join-earlier marks-now tally-now
 
-    pub join-turn : Joining v₀ v' marks' tally' c all (names_at file (pos + 2) (left - 1))
+    pub join-turn : Joining v₀ v' marks' tally' c all (names_at file (at + 2 * (i + 1)) (count - (i + 1)))
     join-turn =
         let s = j.now.s in
         record {

@@ -1,3 +1,4 @@
+pub mod Found
 pub mod Answers
 pub mod Lifted
 pub mod Joins

@@ -2,7 +2,7 @@
 use borrow.Author.Tests.{le-leb, le-ltb, lt-leb, lt-ltb, ne_eqb}
 use mathlib.Core.Bool.{Bool, ◌||◌, cond, false, true}
 use mathlib.Core.List.{List, [], ◌∷◌}
-use mathlib.Core.Option.{none, some}
+use mathlib.Core.Option.{some}
 use mathlib.Core.Path.{◌∙◌, ◌≡◌, ap, ap₂, refl, subst, sym}
 use lib.Dec.{eqb, leb, ltb}
 use lib.ListN.{get_elem?, length}
@@ -16,7 +16,7 @@ use Rattle.context.specs.Holds.{Holds}
 use Rattle.context.specs.Lookup.{code_named}
 use Rattle.context.specs.Parts.{part, place_of}
 use Rattle.context.specs.Entries.{after_declaration, after_end, after_field, begun, codes_of, declaring, variable_kind}
-use Rattle.store.specs.Store.{Store}
+use Rattle.store.specs.declared.Store.{Store}
 use Rattle.context.specs.declared.Counts.{Counts}
 use Rattle.judge_plain.proofs.Answers.{declaration-small}
 use Rattle.judge_plain.specs.Causes.{answer, declaration_cause, early, end_cause, judged, kept, module_cause}
@@ -30,7 +30,7 @@ use Rattle.limits.specs.Sizes.{max_fields}
 use Rattle.rules.specs.Add.{add}
 use Rattle.rules.specs.Expression.{over_arity}
 use Rattle.rules.specs.Field.{Field, begin_module, declare_constant, declare_variable, end_module, tag}
-use Rattle.rules.specs.Judge.{Cause, causes, first_cause, judge, out_of_order}
+use Rattle.rules.specs.Judge.{Cause, first_cause, judge, out_of_order}
 use Rattle.rules.specs.State.{Module, State, here, in_context, module_named}
 use Rattle.theory.specs.Lists.{is_some}
 

@@ -8,7 +8,7 @@ use lib.ListN.{get_or-append, length}
 use native.Mathlib.Omega.{arith}
 use Prim.Native.Nat.{◌<◌, ℕ}
 use Rattle.context.specs.Holds.{Holds, module_no}
-use Rattle.store.specs.Store.{Store}
+use Rattle.store.specs.declared.Store.{Store}
 use Rattle.context.specs.declared.Counts.{Counts}
 use Rattle.judge_plain.specs.Extending.{Listed, Ready, is_ready}
 use Rattle.judge_plain.specs.Judges.{cause_number, phase_of}

@@ -1,15 +1,39 @@
 -- What the judging functions answer, over the store: the first cause that holds, by its number, or 0.
-use Rattle.std.specs.Prelude.{Bool, ◌||◌, cond, not, List, ℕ, eqb, leb, ltb}
+use Rattle.std.specs.Prelude.{Bool, cond, not, List, ℕ, eqb, leb, ltb, Result, Ok, Err}
 use Rattle.limits.specs.Limits.{max_arity, max_declarations, max_modules}
 use Rattle.theory.specs.Lists.{is_some}
 use Rattle.context.specs.Lookup.{code_named}
 use Rattle.context.specs.Parts.{part, place_of}
 use Rattle.context.specs.Entries.{after_field, codes_of}
 use Rattle.context.specs.declared.Counts.{Counts}
-use Rattle.store.specs.Store.{Store}
+use Rattle.store.specs.declared.Store.{Store}
+use Rattle.judge_plain.specs.declared.Cause.{Cause}
+use Rattle.judge_plain.specs.declared.Cause.TheVariants.{Malformed, OutOfOrder, LimitPassed, ModuleNameUsed, ModuleNotEnded, NameTaken, NameUnknown, Miscounted, WrongSubstitution, IllLevelled, AssumptionNotConstant, SubstituteUnlawful, NamedInstance, Mixed}
 use Rattle.judge_plain.specs.declared.Judged.{Judged}
 use Rattle.judge_plain.specs.declared.Phase.{Phase}
 use Rattle.judge_plain.specs.declared.Phase.TheVariants.{Begun, Inside, Outside}
+
+-- the numbers of the causes
+abbrev pub number : Cause → ℕ
+number Malformed = 3
+number OutOfOrder = 4
+number LimitPassed = 5
+number ModuleNameUsed = 6
+number ModuleNotEnded = 7
+number NameTaken = 8
+number NameUnknown = 9
+number Miscounted = 10
+number WrongSubstitution = 11
+number IllLevelled = 12
+number AssumptionNotConstant = 13
+number SubstituteUnlawful = 14
+number NamedInstance = 16
+number Mixed = 21
+
+-- the number of the cause that was found, 0 of none
+abbrev pub found_number : Result (Unit {0}) Cause → ℕ
+found_number (Ok u) = 0
+found_number (Err cause) = number cause
 
 -- 4: outside a module only a module field; EXTENDS only after the module field
 abbrev pub early : Phase → ℕ → Bool

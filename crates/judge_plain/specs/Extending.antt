@@ -11,7 +11,7 @@ use Rattle.context.specs.Joining.{Marked}
 use Rattle.context.specs.Parts.{part, place_of}
 use Rattle.context.specs.Entries.{codes_of, order_of}
 use Rattle.context.specs.declared.Counts.{Counts}
-use Rattle.store.specs.Store.{Store}
+use Rattle.store.specs.declared.Store.{Store}
 use Rattle.store.specs.Updates.{with_contexts, with_heads, with_orders}
 use Rattle.judge_plain.specs.Causes.{early}
 use Rattle.judge_plain.specs.Judges.{Judges, phase_of}

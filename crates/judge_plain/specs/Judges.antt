@@ -7,7 +7,7 @@ use Rattle.rules.specs.Judge.{judge}
 use Rattle.rules.specs.State.{State, begun, inside, outside}
 use Rattle.rules.specs.State as rules
 use Rattle.context.specs.Holds.{Holds}
-use Rattle.store.specs.Store.{Store}
+use Rattle.store.specs.declared.Store.{Store}
 use Rattle.judge_plain.specs.declared.Judged.{Judged}
 use Rattle.judge_plain.specs.declared.Phase.{Phase}
 use Rattle.judge_plain.specs.declared.Phase.TheVariants.{Begun, Inside, Outside}

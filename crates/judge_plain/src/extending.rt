@@ -6,11 +6,10 @@ ghost use Rattle.tokens.specs.Token.{number_at};
 ghost use Rattle.agree.specs.Parts.{names_at};
 ghost use Rattle.context.specs.Lookup.{repeated_in};
 ghost use Rattle.context.specs.Entries.{codes_of};
-ghost use Rattle.store.specs.Store.{held};
-ghost use Rattle.judge_plain.specs.Causes.{joined_answer};
+ghost use Rattle.judge_plain.specs.Causes.{found_number, joined_answer};
 ghost use Rattle.judge_plain.specs.Extending.{Extending, Joinable, Joined, Ready, Startable, extends_cause, missing_in};
 
-use crate::{Judged, NameList, Phase, out_of_order, refused};
+use crate::{Cause, Judged, NameList, Phase, out_of_order, refused};
 use context::Counts;
 use context::extending::{clear, extend};
 use context::lookup::{find_module, has_repeated_name};
@@ -19,46 +18,31 @@ use store::{Lent, Store};
 use tokens::number_at;
 
 // Cause 7: one of the names listed is not that of a module ended.
-pub fn has_missing_name(
-    file: &[u8],
-    list: NameList,
-    store: &[u16; Store::LENGTH],
-    modules: usize,
-) -> bool
+pub fn has_missing_name(file: &[u8], list: NameList, store: &Store, modules: usize) -> bool
     requires { list.at + 2 * list.count ≤ file_bytes }
-    ensures { result ≡ missing_in (held store.now).heads modules (names_at file.now list.at list.count) }
+    ensures { result ≡ missing_in store.now.heads modules (names_at file.now list.at list.count) }
 {
-    let mut pos = list.at;
-    let mut left = list.count;
-    while 0 < left {
-        if modules <= find_module(store, modules, number_at(file, pos)) {
-            return true;
-        }
-        pos += 2;
-        left -= 1;
-    }
-    false
+    (0..list.count).any(|i| {
+        let name = number_at(file, list.at + 2 * i);
+        modules <= find_module(store, modules, name)
+    })
 }
 
 // Joins the modules listed to the module that is open.
 pub fn join_named(
     file: &[u8],
     list: NameList,
-    store: &mut [u16; Store::LENGTH],
+    store: &mut Store,
     marks: &mut [u16],
     tally: &mut [u16],
     c: Counts,
 )
-    requires { Joinable (held store.old) marks.old tally.old c (names_at file.now list.at list.count) × (list.at + 2 * list.count ≤ file_bytes) }
-    ensures { Joined (held store.old) (held store.new) c (names_at file.now list.at list.count) }
+    requires { Joinable store.old marks.old tally.old c (names_at file.now list.at list.count) × (list.at + 2 * list.count ≤ file_bytes) }
+    ensures { Joined store.old store.new c (names_at file.now list.at list.count) }
 {
-    let mut pos = list.at;
-    let mut left = list.count;
-    while 0 < left {
-        let q = find_module(store, c.modules, number_at(file, pos));
+    for i in 0..list.count {
+        let q = find_module(store, c.modules, number_at(file, list.at + 2 * i));
         extend(store, marks, tally, c.modules, q);
-        pos += 2;
-        left -= 1;
     }
 }
 
@@ -66,13 +50,13 @@ pub fn join_named(
 pub fn join_modules(
     file: &[u8],
     list: NameList,
-    store: &mut [u16; Store::LENGTH],
+    store: &mut Store,
     marks: &mut [u16],
     tally: &mut [u16],
     c: Counts,
 )
-    requires { Startable (held store.old) c (names_at file.now list.at list.count) × (length marks.old ≡ max_definitions + c.fields) × (length tally.old ≡ c.definitions) × (list.at + 2 * list.count ≤ file_bytes) }
-    ensures { Joined (held store.old) (held store.new) c (names_at file.now list.at list.count) }
+    requires { Startable store.old c (names_at file.now list.at list.count) × (length marks.old ≡ max_definitions + c.fields) × (length tally.old ≡ c.definitions) × (list.at + 2 * list.count ≤ file_bytes) }
+    ensures { Joined store.old store.new c (names_at file.now list.at list.count) }
 {
     clear(marks);
     clear(tally);
@@ -83,13 +67,13 @@ pub fn join_modules(
 pub fn join_all(
     file: &[u8],
     list: NameList,
-    store: &mut [u16; Store::LENGTH],
+    store: &mut Store,
     marks: &mut [u16],
     tally: &mut [u16],
     c: Counts,
 )
-    requires { Startable (held store.old) c (names_at file.now list.at list.count) × (length marks.old ≡ code_count) × (length tally.old ≡ max_definitions) × (list.at + 2 * list.count ≤ file_bytes) × (c.fields < max_fields) × (c.definitions ≤ max_definitions) }
-    ensures { Joined (held store.old) (held store.new) c (names_at file.now list.at list.count) }
+    requires { Startable store.old c (names_at file.now list.at list.count) × (length marks.old ≡ code_count) × (length tally.old ≡ max_definitions) × (list.at + 2 * list.count ≤ file_bytes) × (c.fields < max_fields) × (c.definitions ≤ max_definitions) }
+    ensures { Joined store.old store.new c (names_at file.now list.at list.count) }
 {
     let codes = Limits::DEFINITIONS + c.fields;
     let numbers = c.definitions;
@@ -104,12 +88,12 @@ pub fn join_all(
 }
 
 // Cause 8 of the module that is open, the modules named being joined to it; and then what is answered.
-pub fn joined_field(store: &[u16; Store::LENGTH], phase: Phase, c: Counts) -> Judged
+pub fn joined_field(store: &Store, phase: Phase, c: Counts) -> Judged
     requires { (c.fields < max_fields) × (c.modules ≤ max_modules) }
-    ensures { result ≡ joined_answer (repeated_in (held store.now).names (codes_of (held store.now) c.modules)) phase c }
+    ensures { result ≡ joined_answer (repeated_in store.now.names (codes_of store.now c.modules)) phase c }
 {
     if has_repeated_name(store, c.modules) {
-        return refused(8, phase, c);
+        return refused(Cause::NameTaken.number(), phase, c);
     }
     Judged {
         cause: 0,
@@ -122,32 +106,32 @@ pub fn joined_field(store: &[u16; Store::LENGTH], phase: Phase, c: Counts) -> Ju
 pub fn extends_cause(
     file: &[u8],
     list: NameList,
-    store: &[u16; Store::LENGTH],
+    store: &Store,
     phase: Phase,
     modules: usize,
-) -> u8
+) -> Result<(), Cause>
     requires { list.at + 2 * list.count ≤ file_bytes }
-    ensures { result ≡ extends_cause phase modules (held store.now).heads (names_at file.now list.at list.count) }
+    ensures { found_number result ≡ extends_cause phase modules store.now.heads (names_at file.now list.at list.count) }
 {
     if out_of_order(phase, 2) {
-        return 4;
+        return Err(Cause::OutOfOrder);
     }
     if has_missing_name(file, list, store, modules) {
-        return 7;
+        return Err(Cause::ModuleNotEnded);
     }
-    0
+    Ok(())
 }
 
 // Joins the modules listed, and then looks at cause 8.
 pub fn extend_open(
     file: &[u8],
     list: NameList,
-    store: &mut [u16; Store::LENGTH],
+    store: &mut Store,
     phase: Phase,
     c: Counts,
 ) -> Judged
-    requires { Startable (held store.old) c (names_at file.now list.at list.count) × (list.at + 2 * list.count ≤ file_bytes) × (c.fields < max_fields) × (c.modules ≤ max_modules) × (c.definitions ≤ max_definitions) }
-    ensures { Joined (held store.old) (held store.new) c (names_at file.now list.at list.count) × (result ≡ joined_answer (repeated_in (held store.new).names (codes_of (held store.new) c.modules)) phase c) }
+    requires { Startable store.old c (names_at file.now list.at list.count) × (list.at + 2 * list.count ≤ file_bytes) × (c.fields < max_fields) × (c.modules ≤ max_modules) × (c.definitions ≤ max_definitions) }
+    ensures { Joined store.old store.new c (names_at file.now list.at list.count) × (result ≡ joined_answer (repeated_in store.new.names (codes_of store.new c.modules)) phase c) }
 {
     let mut marks = [0u16; Lent::MARKS];
     let mut tally = [0u16; Lent::TALLY];
@@ -159,16 +143,15 @@ pub fn extend_open(
 pub fn extends_field(
     file: &[u8],
     list: NameList,
-    store: &mut [u16; Store::LENGTH],
+    store: &mut Store,
     phase: Phase,
     c: Counts,
 ) -> Judged
-    requires { Ready (held store.old) phase c × (1 ≤ list.count) × (list.at + 2 * list.count ≤ file_bytes) × (c.fields < max_fields) × (c.modules ≤ max_modules) × (c.definitions ≤ max_definitions) }
-    ensures { Extending (held store.old) (held store.new) phase c result (number_at file.now list.at) (names_at file.now (list.at + 2) (list.count - 1)) }
+    requires { Ready store.old phase c × (1 ≤ list.count) × (list.at + 2 * list.count ≤ file_bytes) × (c.fields < max_fields) × (c.modules ≤ max_modules) × (c.definitions ≤ max_definitions) }
+    ensures { Extending store.old store.new phase c result (number_at file.now list.at) (names_at file.now (list.at + 2) (list.count - 1)) }
 {
-    let cause = extends_cause(file, list, store, phase, c.modules);
-    if cause != 0 {
-        return refused(cause, phase, c);
+    if let Err(cause) = extends_cause(file, list, store, phase, c.modules) {
+        return refused(cause.number(), phase, c);
     }
     extend_open(file, list, store, phase, c)
 }

@@ -7,7 +7,7 @@ pub mod extending;
 pub mod modules;
 
 ghost use Rattle.std.specs.Prelude.{◌≡◌};
-ghost use Rattle.judge_plain.specs.Causes.{early, refusal};
+ghost use Rattle.judge_plain.specs.Causes.{early, number, refusal};
 
 use context::Counts;
 
@@ -19,7 +19,35 @@ pub enum Phase {
     Inside,
 }
 
-// The first cause of a field, 0 if none holds; the phase and the counts after it.
+// Why a field is refused, by the number that a reply gives.
+#[derive(Clone, Copy, PartialEq, Eq)]
+pub enum Cause {
+    Malformed = 3,
+    OutOfOrder = 4,
+    LimitPassed = 5,
+    ModuleNameUsed = 6,
+    ModuleNotEnded = 7,
+    NameTaken = 8,
+    NameUnknown = 9,
+    Miscounted = 10,
+    WrongSubstitution = 11,
+    IllLevelled = 12,
+    AssumptionNotConstant = 13,
+    SubstituteUnlawful = 14,
+    NamedInstance = 16,
+    Mixed = 21,
+}
+
+impl Cause {
+    pub fn number(self) -> u8
+        ensures { result ≡ number self }
+    {
+        self as u8
+    }
+}
+
+// The first cause of a field, 0 if none holds; the phase and the counts after it. The cause is a number here, since what is promised of every judge
+// (specs/Judges, and `Judging` of standing) compares it with the rules' number.
 #[derive(Clone, Copy)]
 pub struct Judged {
     pub cause: u8,
@@ -45,7 +73,7 @@ pub fn out_of_order(phase: Phase, tag: u8) -> bool
     }
 }
 
-// A field is refused: nothing is added.
+// A field is refused: nothing is added. The cause is a number as in `Judged`; the judges give that of the `Cause` that they found.
 pub fn refused(cause: u8, phase: Phase, counts: Counts) -> Judged
     ensures { result ≡ refusal cause phase counts }
 {

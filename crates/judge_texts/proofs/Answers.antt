@@ -1,25 +1,25 @@
 -- What the judging functions answer, one way through each at a time, over plain values.
 use borrow.Author.Tests.{le-leb, le-ltb, leb-false, lt-leb, lt-ltb, ltb-false, ne_eqb}
-use mathlib.Core.Bool.{Bool, cond, false, true}
+use mathlib.Core.Bool.{Bool, cond, false, not, true}
 use mathlib.Core.List.{List}
 use mathlib.Core.Path.{◌∙◌, ◌≡◌, ap, refl, subst, sym}
 use Prim.Native.Nat.{ℕ, ◌<◌, ◌≤◌}
 use native.Mathlib.Omega.{arith}
 use lib.Dec.{leb, ltb}
 use lib.ListN.{get_or, length}
+use Rattle.std.specs.Prelude.{Option, is_none, is_some as found}
 use Rattle.limits.specs.Limits.{max_arity, max_definitions}
 use Rattle.limits.specs.Sizes.{context_length}
 use Rattle.tokens.specs.Limit.{limit_at}
-use Rattle.tokens.specs.declared.Limit.{Limit}
-use Rattle.tokens.specs.declared.Limit.TheVariants.{Kept, Passed}
 use Rattle.forms.specs.Forms.{form_at, stored as stored_form}
 use Rattle.forms.proofs.Tables.{load_same}
-use Rattle.context.proofs.Repeats.{code-none, code-some}
+use Rattle.context.proofs.Repeats.{found-some}
 use Rattle.context.specs.Lookup.{as_code, code_named}
 use Rattle.context.specs.Entries.{after_definitions, after_field, codes_of, context_codes}
-use Rattle.store.specs.Store.{Store, context_slot, order_slot}
-use Rattle.context.specs.declared.Code.{Code}
-use Rattle.context.specs.declared.Code.TheVariants.{Absent, At}
+use Rattle.store.specs.Store.{context_slot, order_slot}
+use Rattle.store.specs.declared.Store.{Store}
+use Rattle.store.specs.declared.Facts.{Facts}
+use Rattle.theory.specs.Lists.{is_some}
 use Rattle.context.specs.declared.Counts.{Counts}
 use Rattle.judge_plain.specs.Causes.{answer, early, judged, refusal}
 use Rattle.judge_plain.specs.declared.Judged.{Judged}
@@ -28,17 +28,8 @@ use Rattle.judge_plain.specs.declared.Phase.TheVariants.{Inside}
 use Rattle.levels.specs.Tables.{names_of, table_words}
 use Rattle.levels.specs.Walk.{TextForm}
 use Rattle.standing.specs.Standing.{Roomy, itselves}
-use Rattle.judge_texts.specs.Texts.{Defining, Finished, Formula, Stored, Texted, added, definition_cause, formula_cause, halted, is_passed, last_cause, text_cause, walked, weighed, wrong}
+use Rattle.judge_texts.specs.Texts.{Defining, Finished, Formula, Stored, Texted, added, definition_cause, formula_cause, halted, last_cause, text_cause, walked, weighed, wrong}
 use Rattle.judge_texts.specs.declared.Text.{Text}
-
--- the limits of an expression
-pub limit-kept : (l : Limit) (e : ℕ) → l ≡ Kept e → false ≡ is_passed l
-unfolding is_passed
-limit-kept l e p = rw p refl
-
-pub limit-passed : (l : Limit) → l ≡ Passed → true ≡ is_passed l
-unfolding is_passed
-limit-passed l p = rw p refl
 
 -- the causes of a text
 module _ (t : Text) where
@@ -81,17 +72,17 @@ module _ (p : Phase) (tag : ℕ) (file : List ℕ) (at : ℕ) (a : Bool) (first 
   unfolding formula_cause
   formula-early e = rw (← first, e) refl
 
-  module _ (l : Limit) (limit : l ≡ limit_at file at) (b : Bool) (second : b ≡ is_passed l) where
+  module _ (l : Option ℕ) (limit : l ≡ limit_at file at) (b : Bool) (second : found l ≡ not b) where
     pub formula-over : a ≡ false → b ≡ true → 5 ≡ formula_cause p tag file at
     unfolding formula_cause
-    formula-over e f = rw (← first, e, ← limit, ← second, f) refl
+    formula-over e f = rw (← first, e, ← limit, second, f) refl
 
     pub formula-kept : a ≡ false → b ≡ false → 0 ≡ formula_cause p tag file at
     unfolding formula_cause
-    formula-kept e f = rw (← first, e, ← limit, ← second, f) refl
+    formula-kept e f = rw (← first, e, ← limit, second, f) refl
 
 -- a formula judged
-module _ (names facts cs file words refs refs' : List ℕ) (p : Phase) (c : Counts) (tag : ℕ) (strict : Bool) (at : ℕ) (r : Judged) (cause : ℕ)
+module _ (names : List ℕ) (facts : List Facts) (cs file words refs refs' : List ℕ) (p : Phase) (c : Counts) (tag : ℕ) (strict : Bool) (at : ℕ) (r : Judged) (cause : ℕ)
     (first : cause ≡ formula_cause p tag file at) where
   pub formula-stopped : (cause ≡ 0 → ⊥) → r ≡ refusal cause p c → Formula names facts cs file words refs refs' p c tag strict at r
   formula-stopped h e = halted (λ z. h (first ∙ z)) (e ∙ ap (λ (w : ℕ). refusal w p c) first)
@@ -114,32 +105,35 @@ module _ (p : Phase) (c : Counts) (names contexts heads file : List ℕ) (name p
   unfolding definition_cause
   define-wide e h k = rw (← first, e, lt-leb max_definitions c.definitions h, lt-ltb max_arity params k) refl
 
-  module _ (few : c.definitions < max_definitions) (small : params ≤ max_arity) (l : Limit) (limit : l ≡ limit_at file at) (b : Bool) (second : b ≡ is_passed l) where
+  module _ (few : c.definitions < max_definitions) (small : params ≤ max_arity) (l : Option ℕ) (limit : l ≡ limit_at file at) (b : Bool) (second : found l ≡ not b) where
     pub define-over : a ≡ false → b ≡ true → 5 ≡ definition_cause p c names contexts heads file name params at
     unfolding definition_cause
-    define-over e f = rw (← first, e, lt-leb max_definitions c.definitions few, le-ltb max_arity params small, ← limit, ← second, f) refl
+    define-over e f = rw (← first, e, lt-leb max_definitions c.definitions few, le-ltb max_arity params small, ← limit, second, f) refl
 
-    module _ (found : Code) (looked : found ≡ as_code (code_named names name (context_codes contexts heads c.modules))) where
-      pub define-there : a ≡ false → b ≡ false → (o : ℕ) → found ≡ At o → 8 ≡ definition_cause p c names contexts heads file name params at
+    module _ (q : Option ℕ) (looked : q ≡ as_code (code_named names name (context_codes contexts heads c.modules))) (d : Bool) (there : d ≡ found q) where
+      known : is_some (code_named names name (context_codes contexts heads c.modules)) ≡ d
+      known = sym (there ∙ ap found looked ∙ found-some (code_named names name (context_codes contexts heads c.modules)))
+
+      pub define-there : a ≡ false → b ≡ false → d ≡ true → 8 ≡ definition_cause p c names contexts heads file name params at
       unfolding definition_cause
-      define-there e f o q =
-          rw (← first, e, lt-leb max_definitions c.definitions few, le-ltb max_arity params small, ← limit, ← second, f, code-some (code_named names name (context_codes contexts heads c.modules)) found o looked q)
+      define-there e f k =
+          rw (← first, e, lt-leb max_definitions c.definitions few, le-ltb max_arity params small, ← limit, second, f, known ∙ k)
           refl
 
-      pub define-free : a ≡ false → b ≡ false → found ≡ Absent → 0 ≡ definition_cause p c names contexts heads file name params at
+      pub define-free : a ≡ false → b ≡ false → d ≡ false → 0 ≡ definition_cause p c names contexts heads file name params at
       unfolding definition_cause
-      define-free e f q =
-          rw (← first, e, lt-leb max_definitions c.definitions few, le-ltb max_arity params small, ← limit, ← second, f, code-none (code_named names name (context_codes contexts heads c.modules)) found looked q)
+      define-free e f k =
+          rw (← first, e, lt-leb max_definitions c.definitions few, le-ltb max_arity params small, ← limit, second, f, known ∙ k)
           refl
 
 -- a definition without these causes keeps the limits
 module _ (p : Phase) (c : Counts) (names contexts heads file : List ℕ) (name params at : ℕ) where
-  pub define-lawful : definition_cause p c names contexts heads file name params at ≡ 0 → (c.definitions < max_definitions) × (params ≤ max_arity) × (is_passed (limit_at file at) ≡ false)
+  pub define-lawful : definition_cause p c names contexts heads file name params at ≡ 0 → (c.definitions < max_definitions) × (params ≤ max_arity) × (is_none (limit_at file at) ≡ false)
   unfolding definition_cause
-  define-lawful e = go (early p 5) (leb max_definitions c.definitions) refl (ltb max_arity params) refl (is_passed (limit_at file at)) refl _ e
+  define-lawful e = go (early p 5) (leb max_definitions c.definitions) refl (ltb max_arity params) refl (is_none (limit_at file at)) refl _ e
     where
-      go : (a b : Bool) → leb max_definitions c.definitions ≡ b → (d : Bool) → ltb max_arity params ≡ d → (l : Bool) → is_passed (limit_at file at) ≡ l → (x : ℕ)
-          → ◌≡◌ {A = ℕ} (cond a 4 (cond b 5 (cond d 5 (cond l 5 x)))) 0 → (c.definitions < max_definitions) × (params ≤ max_arity) × (is_passed (limit_at file at) ≡ false)
+      go : (a b : Bool) → leb max_definitions c.definitions ≡ b → (d : Bool) → ltb max_arity params ≡ d → (l : Bool) → is_none (limit_at file at) ≡ l → (x : ℕ)
+          → ◌≡◌ {A = ℕ} (cond a 4 (cond b 5 (cond d 5 (cond l 5 x)))) 0 → (c.definitions < max_definitions) × (params ≤ max_arity) × (is_none (limit_at file at) ≡ false)
       go true b q d k l m x z = absurd (omega arith)
       go false true q d k l m x z = absurd (omega arith)
       go false false q true k l m x z = absurd (omega arith)
@@ -180,7 +174,3 @@ pub define-walked : (v v' : Store) (file words words' refs refs' : List ℕ) (p 
     → Texted v.names v.facts (codes_of v c.modules) file words params at refs refs' t → Finished v v' words words' p c name params at len t r
     → Defining v v' file words words' refs refs' p c name params at len r
 define-walked v v' file words words' refs refs' p c name params at len r h t x f = walked h t x f
-
--- no cause was found
-pub by_cause : (cause w : ℕ) → cause ≡ w → cause ≡ 0 → w ≡ 0
-by_cause cause w e h = sym e ∙ h

@@ -11,6 +11,7 @@ use native.Mathlib.Omega.{arith}
 use lib.Dec.{leb, ltb}
 use lib.ListN.{get_or, length}
 use lib.Seq.{get_or_at}
+use Rattle.std.specs.Prelude.{is_none}
 use Rattle.limits.specs.Limits.{max_arity, max_definitions}
 use Rattle.theory.specs.Expand.{Definition as Meaning}
 use Rattle.theory.specs.Lists.{is_some}
@@ -30,8 +31,8 @@ use Rattle.context.proofs.Judging.{here-law}
 use Rattle.context.specs.Holds.{Holds, Linked}
 use Rattle.context.specs.Lookup.{code_named}
 use Rattle.context.specs.Entries.{after_definitions, codes_of, defining, own_row}
-use Rattle.store.specs.Store.{Store, first_at, link_at, source_at}
-use Rattle.store.specs.Updates.{stored}
+use Rattle.store.specs.Store.{first_at, link_at, source_at}
+use Rattle.store.specs.declared.Store.{Store}
 use Rattle.context.specs.declared.Counts.{Counts}
 use Rattle.levels.specs.Tables.{scene_of}
 use Rattle.resolve.proofs.Numbers.{declarations_of, declares-other}
@@ -40,7 +41,7 @@ use Rattle.worlds.specs.Rows.{Row, no_row, rows_after}
 use Rattle.worlds.proofs.Steps.{own_row as own_world}
 use Rattle.judge_plain.proofs.Lifted.{order-law}
 use Rattle.judge_plain.proofs.Premises.{no-cause-left}
-use Rattle.judge_plain.specs.Causes.{early, refusal}
+use Rattle.judge_plain.specs.Causes.{refusal}
 use Rattle.judge_plain.specs.Judges.{cause_number}
 use Rattle.judge_plain.specs.declared.Judged.{Judged}
 use Rattle.judge_plain.specs.declared.Phase.{Phase}
@@ -52,7 +53,7 @@ use Rattle.standing.proofs.Advancing.{declarations-same, few-declared, grows, nu
 use Rattle.standing.proofs.Growth.{new-definition, rows-stored}
 use Rattle.standing.proofs.Links.{chained-kept, rows-counted}
 use Rattle.standing.proofs.Texts.{SameBelow, same-below, text-kept}
-use Rattle.judge_texts.specs.Texts.{Defining, Finished, Stored, Texted, added, definition_cause, is_passed, stopped, text_cause, walked, wrong}
+use Rattle.judge_texts.specs.Texts.{Defining, Finished, Stored, Texted, added, definition_cause, stopped, text_cause, walked, wrong}
 use Rattle.judge_texts.specs.declared.Text.{Text}
 use Rattle.judge_texts.proofs.Answers.{define-lawful}
 use Rattle.judge_texts.proofs.FormulaLaws.{read_length}
@@ -135,7 +136,7 @@ module _ (file : List ℕ) (fs : List Field) (s : State) (rs : List Row) (v : St
       ≡ cond (out_of_order s.phase f) 4 (cond (too_many_definitions s 1) 5 (cond (over_arity params) 5 (cond (over_limit e) 5 (cond (in_context name (here s)) 8 0))))
   unfolding definition_cause
   first_three =
-      ap₂ (λ (a b : Bool). cond a 4 (cond b 5 (cond (ltb max_arity params) 5 (cond (is_passed (limit_at file at)) 5 (cond (is_some (code_named v.names name (codes_of v c.modules))) 8 0)))))
+      ap₂ (λ (a b : Bool). cond a 4 (cond b 5 (cond (ltb max_arity params) 5 (cond (is_none (limit_at file at)) 5 (cond (is_some (code_named v.names name (codes_of v c.modules))) 8 0)))))
       (order-law p s stands.phase f) (over-law max_definitions c.definitions ∙ ap (λ (m : ℕ). ltb max_definitions (m + 1)) stands.holds.definitions)
       ∙ ap₂ (λ (a b : Bool). cond (out_of_order s.phase f) 4 (cond (too_many_definitions s 1) 5 (cond (over_arity params) 5 (cond a 5 (cond b 8 0)))))
       (limit-law file at l e inside q) (here-law v c s stands.holds name)

@@ -21,12 +21,11 @@ use Rattle.fields.specs.declared.Parts.TheVariants.{Assume, Theorem}
 use Rattle.context.proofs.Adds.{adds-assume, adds-theorem}
 use Rattle.context.specs.Holds.{Holds}
 use Rattle.context.specs.Entries.{after_field, codes_of}
-use Rattle.store.specs.Store.{Store}
+use Rattle.store.specs.declared.Store.{Store}
 use Rattle.context.specs.declared.Counts.{Counts}
 use Rattle.worlds.specs.Rows.{Row, new_rows}
 use Rattle.judge_plain.proofs.Lifted.{judges, order-law}
 use Rattle.judge_plain.proofs.Premises.{no-cause-left}
-use Rattle.judge_plain.specs.Causes.{answer}
 use Rattle.judge_plain.specs.Judges.{cause_number, phase_of}
 use Rattle.judge_plain.specs.declared.Judged.{Judged}
 use Rattle.judge_plain.specs.declared.Phase.{Phase}

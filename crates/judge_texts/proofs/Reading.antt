@@ -9,11 +9,11 @@ use native.Mathlib.Decide.{ℕ_discrete}
 use native.Mathlib.Omega.{arith}
 use lib.Dec.{eqb}
 use lib.ListN.{length, length-replicate, replicate}
+use Rattle.std.specs.Prelude.{None, Some, is_none}
 use Rattle.limits.specs.Limits.{file_bytes, max_arity, max_nesting}
 use Rattle.theory.specs.Expand.{arities_of}
 use Rattle.theory.specs.Lists.{All}
 use Rattle.theory.specs.Term.{Term, WellFormed}
-use Rattle.theory.specs.Tree.{node, ⟨⟩, ◌▹◌}
 use Rattle.theory.specs.Level.{IsLevel}
 use Rattle.theory.proofs.Lists.{replicate-all}
 use Rattle.rules.specs.Expression.{Expression, expression, over_limit}
@@ -22,50 +22,33 @@ use Rattle.rules.specs.Judge.{miscounted, not_level_correct, unknown}
 use Rattle.rules.specs.State.{State, here, level_of, resolve, templates_of, zeros}
 use Rattle.laws.proofs.Expressions.{expression-back}
 use Rattle.laws.proofs.Invariant.{clear_in}
-use Rattle.tokens.specs.Expr.{Expr, Exprs, expr_at, found}
+use Rattle.tokens.specs.Expr.{expr_at}
 use Rattle.tokens.specs.Limit.{kept_of, limit_at}
-use Rattle.tokens.specs.Token.{is_token}
-use Rattle.tokens.specs.declared.Limit.TheVariants.{Kept, Passed}
 use Rattle.tokens.proofs.Nesting.{limited}
 use Rattle.tokens.proofs.Writing.{Bytes}
 use Rattle.fields.specs.Substitution.{part}
-use Rattle.agree.specs.Trees.{AllTokens, AllTokensOf}
 use Rattle.agree.proofs.Limits.{limits-agree}
-use Rattle.agree.proofs.Walks.{tokens-found}
 use Rattle.forms.specs.Forms.{level_at}
 use Rattle.context.specs.Entries.{codes_of}
-use Rattle.store.specs.Store.{Store}
+use Rattle.store.specs.declared.Store.{Store}
 use Rattle.context.specs.declared.Counts.{Counts}
 use Rattle.levels.specs.Tables.{scene_of}
 use Rattle.resolve.proofs.Law.{Right}
 use Rattle.resolve.proofs.Numbers.{declarations_of}
-use Rattle.text_levels.proofs.OwnWorld.{Tokens, TokensAll, own-level}
+use Rattle.text_levels.proofs.OwnWorld.{own-level}
 use Rattle.worlds.specs.Rows.{Row}
 use Rattle.judge_plain.specs.declared.Phase.{Phase}
 use Rattle.standing.specs.Shown.{TextShown}
 use Rattle.standing.specs.Standing.{Standing, itselves}
-use Rattle.judge_texts.specs.Texts.{Texted, is_passed, last_cause, text_cause}
+use Rattle.judge_texts.specs.Texts.{Texted, last_cause, text_cause}
 use Rattle.judge_texts.specs.declared.Text.{Text}
 use Rattle.standing.proofs.TextShown.{text-right, text-shown}
 
-mutual
-  all-tokens : (t : Expr) → AllTokens (λ i x. is_token x ≡ true) t → Tokens t
-  all-tokens (node h ts) (a, b) = (a, alls-tokens ts b)
-
-  alls-tokens : (ts : Exprs) → AllTokensOf (λ i x. is_token x ≡ true) ts → TokensAll ts
-  alls-tokens ⟨⟩ a = tt
-  alls-tokens (t ▹ ts) (a, b) = (all-tokens t a, alls-tokens ts b)
-
--- whatever is read is made of tokens
-made-of-tokens : (file : List ℕ) (at : ℕ) (t : Expr) (e : ℕ) → expr_at max_nesting file at ≡ found t e → Tokens t
-made-of-tokens file at t e q = all-tokens t (tokens-found file (λ i x. is_token x ≡ true) max_nesting at t e q (λ p a b h. h))
-
 -- 5: the limits
-pub limit-law : (file : List ℕ) (at l : ℕ) (e : Expression) → at + l ≤ length file → expression.read (part file at l) ≡ some e → is_passed (limit_at file at) ≡ over_limit e
-unfolding is_passed
-limit-law file at l e room q = ap is_passed (sym (limited file at (kept_of (expr_at max_nesting file at)) refl) ∙ limits-agree file at l e room q) ∙ go (over_limit e)
+pub limit-law : (file : List ℕ) (at l : ℕ) (e : Expression) → at + l ≤ length file → expression.read (part file at l) ≡ some e → is_none (limit_at file at) ≡ over_limit e
+limit-law file at l e room q = ap is_none (sym (limited file at (kept_of (expr_at max_nesting file at)) refl) ∙ limits-agree file at l e room q) ∙ go (over_limit e)
   where
-    go : (b : Bool) → is_passed (cond b Passed (Kept (at + l))) ≡ b
+    go : (b : Bool) → is_none (cond b None (Some (at + l))) ≡ b
     go true = refl
     go false = refl
 
@@ -108,7 +91,7 @@ module _ (file : List ℕ) (fs : List Field) (s : State) (rs : List Row) (v : St
         let y = text-there in
         x.form.level y.text y.next y.stands ls (omega arith) a
         ∙ own-level refs' (declarations_of fs) (scene_of itselves words) s stands.good stands.forms n ls (omega arith) a y.text u
-        (made-of-tokens file at y.text y.next y.stands) y.below y.same formed
+        y.below y.same formed
 
     pub level-law : t.level ≡ level_of s (zeros n) u
     level-law = x.level n ∙ form-law (replicate n 0) (length-replicate n 0) (replicate-all IsLevel n 0 (omega arith))

@@ -1,22 +1,19 @@
 // Definition fields.
-ghost use Rattle.std.specs.Prelude.{◌≡◌, ◌+◌, ◌≤◌, ◌<◌, length};
+ghost use Rattle.std.specs.Prelude.{◌≡◌, ◌+◌, ◌≤◌, ◌<◌};
 ghost use Rattle.limits.specs.Limits.{file_bytes, max_definitions, max_modules};
 ghost use Rattle.context.specs.Entries.{after_definitions};
 ghost use Rattle.fields.specs.declared.Parts.TheVariants.{Definition};
 ghost use Rattle.forms.specs.Forms.{stored as stored_form};
-ghost use Rattle.levels.specs.Tables.{table_words};
-ghost use Rattle.judge_plain.specs.Causes.{judged};
+ghost use Rattle.judge_plain.specs.Causes.{found_number, judged};
 ghost use Rattle.judge_plain.specs.declared.Phase.TheVariants.{Inside};
 ghost use Rattle.standing.specs.Standing.{Judging, Roomy};
 ghost use Rattle.judge_texts.specs.Texts.{Defining, Finished, Stored, definition_cause};
-ghost use Rattle.store.specs.Store.{held};
 
-use crate::formulas::is_passed;
 use crate::{Text, read_text, text_cause};
+use context::Counts;
 use context::adding::add_definition;
 use context::lookup::find_entry;
-use context::{Code, Counts};
-use judge_plain::{Judged, Phase, out_of_order, refused};
+use judge_plain::{Cause, Judged, Phase, out_of_order, refused};
 use limits::Limits;
 use store::{Lent, Store};
 use tokens::limit_at;
@@ -33,42 +30,42 @@ pub struct Defines {
 // Causes 4, 5 and 8 of a definition.
 pub fn definition_cause(
     file: &[u8],
-    store: &[u16; Store::LENGTH],
+    store: &Store,
     phase: Phase,
     c: Counts,
     d: Defines,
-) -> u8
+) -> Result<(), Cause>
     requires { c.modules ≤ max_modules }
-    ensures { result ≡ definition_cause phase c (held store.now).names (held store.now).contexts (held store.now).heads file.now d.name d.params d.at }
+    ensures { found_number result ≡ definition_cause phase c store.now.names store.now.contexts store.now.heads file.now d.name d.params d.at }
 {
     if out_of_order(phase, 5) {
-        return 4;
+        return Err(Cause::OutOfOrder);
     }
     if Limits::DEFINITIONS <= c.definitions {
-        return 5;
+        return Err(Cause::LimitPassed);
     }
     if Limits::ARITY < d.params as usize {
-        return 5;
+        return Err(Cause::LimitPassed);
     }
-    if is_passed(limit_at(file, d.at)) {
-        return 5;
+    if limit_at(file, d.at).is_none() {
+        return Err(Cause::LimitPassed);
     }
-    match find_entry(store, c.modules, d.name) {
-        Code::At(_) => 8,
-        Code::Absent => 0,
+    if find_entry(store, c.modules, d.name).is_some() {
+        return Err(Cause::NameTaken);
     }
+    Ok(())
 }
 
 // Adds a lawful definition, whose form is given.
 pub fn add_text(
-    store: &mut [u16; Store::LENGTH],
+    store: &mut Store,
     words: &mut [u64; Lent::WORDS],
     c: Counts,
     d: Defines,
     form: u64,
 ) -> Judged
-    requires { Roomy (held store.old) c × (c.definitions < max_definitions) × (length words.old ≡ table_words) × (d.at + d.len ≤ file_bytes) }
-    ensures { (result ≡ judged 0 Inside (after_definitions 1 c)) × Stored (held store.old) (held store.new) c d.name d.params d.at d.len × (words.new ≡ stored_form words.old c.definitions form) }
+    requires { Roomy store.old c × (c.definitions < max_definitions) × (d.at + d.len ≤ file_bytes) }
+    ensures { (result ≡ judged 0 Inside (after_definitions 1 c)) × Stored store.old store.new c d.name d.params d.at d.len × (words.new ≡ stored_form words.old c.definitions form) }
 {
     let number = c.definitions;
     let counts = add_definition(store, c, d.name, d.params as u16, d.at as u16, d.len as u16);
@@ -82,19 +79,18 @@ pub fn add_text(
 
 // Judges a definition by its text, which was read, and adds it if no cause holds.
 pub fn finish_definition(
-    store: &mut [u16; Store::LENGTH],
+    store: &mut Store,
     words: &mut [u64; Lent::WORDS],
     phase: Phase,
     c: Counts,
     d: Defines,
     t: Text,
 ) -> Judged
-    requires { Roomy (held store.old) c × (c.definitions < max_definitions) × (length words.old ≡ table_words) × (d.at + d.len ≤ file_bytes) }
-    ensures { Finished (held store.old) (held store.new) words.old words.new phase c d.name d.params d.at d.len t result }
+    requires { Roomy store.old c × (c.definitions < max_definitions) × (d.at + d.len ≤ file_bytes) }
+    ensures { Finished store.old store.new words.old words.new phase c d.name d.params d.at d.len t result }
 {
-    let cause = text_cause(t);
-    if cause != 0 {
-        return refused(cause, phase, c);
+    if let Err(cause) = text_cause(t) {
+        return refused(cause.number(), phase, c);
     }
     add_text(store, words, c, d, t.form)
 }
@@ -102,15 +98,15 @@ pub fn finish_definition(
 // Judges a definition of which only its text is left to judge.
 pub fn define_text(
     file: &[u8],
-    store: &mut [u16; Store::LENGTH],
+    store: &mut Store,
     refs: &mut [u16; Lent::REFS],
     words: &mut [u64; Lent::WORDS],
     phase: Phase,
     c: Counts,
     d: Defines,
 ) -> Judged
-    requires { Roomy (held store.old) c × (length words.old ≡ table_words) × (d.at + d.len ≤ file_bytes) × (definition_cause phase c (held store.old).names (held store.old).contexts (held store.old).heads file.now d.name d.params d.at ≡ 0) }
-    ensures { Defining (held store.old) (held store.new) file.now words.old words.new refs.old refs.new phase c d.name d.params d.at d.len result }
+    requires { Roomy store.old c × (d.at + d.len ≤ file_bytes) × (definition_cause phase c store.old.names store.old.contexts store.old.heads file.now d.name d.params d.at ≡ 0) }
+    ensures { Defining store.old store.new file.now words.old words.new refs.old refs.new phase c d.name d.params d.at d.len result }
 {
     let m = c.modules;
     let n = d.params as usize;
@@ -121,19 +117,18 @@ pub fn define_text(
 // Judges a definition field, and adds it if no cause holds.
 pub fn definition_field(
     file: &[u8],
-    store: &mut [u16; Store::LENGTH],
+    store: &mut Store,
     refs: &mut [u16; Lent::REFS],
     words: &mut [u64; Lent::WORDS],
     phase: Phase,
     c: Counts,
     d: Defines,
 ) -> Judged
-    requires { Roomy (held store.old) c × (length words.old ≡ table_words) × (d.at + d.len ≤ file_bytes) }
-    ensures { Judging file.now (Definition d.name d.params d.at d.len) (held store.old) (held store.new) c phase result refs.old refs.new words.old words.new }
+    requires { Roomy store.old c × (d.at + d.len ≤ file_bytes) }
+    ensures { Judging file.now (Definition d.name d.params d.at d.len) store.old store.new c phase result refs.old refs.new words.old words.new }
 {
-    let cause = definition_cause(file, store, phase, c, d);
-    if cause != 0 {
-        return refused(cause, phase, c);
+    if let Err(cause) = definition_cause(file, store, phase, c, d) {
+        return refused(cause.number(), phase, c);
     }
     define_text(file, store, refs, words, phase, c, d)
 }

@@ -9,11 +9,12 @@ ghost use Rattle.limits.specs.Limits.{max_modules};
 ghost use Rattle.context.specs.Entries.{context_codes};
 ghost use Rattle.levels.specs.Tables.{names_of};
 ghost use Rattle.levels.specs.Walk.{TextForm};
+ghost use Rattle.judge_plain.specs.Causes.{found_number};
 ghost use Rattle.standing.specs.Standing.{itselves};
 ghost use Rattle.judge_texts.specs.Texts.{Texted, text_cause};
-ghost use Rattle.store.specs.Store.{held};
 
 use forms::levels::level_at_zero;
+use judge_plain::Cause;
 use levels::names::identity;
 use levels::text_form;
 use limits::Limits;
@@ -22,6 +23,7 @@ use store::{Lent, Store};
 
 // What a text comes to: the position after it; whether something in it is unknown (cause 9), or an argument count wrong (cause 10); its level
 // with parameters at 0; its form.
+// Both may hold, beside a position that stands in any case: causes 9 and 10, each a value of its own.
 #[derive(Clone, Copy)]
 pub struct Text {
     pub next: usize,
@@ -43,7 +45,7 @@ pub fn own_form(file: &[u8], refs: &[u16; Lent::REFS], words: &[u64; Lent::WORDS
 // Reads the text at a position, which keeps the limits, in the context of module m, with so many parameters.
 pub fn read_text(
     file: &[u8],
-    store: &[u16; Store::LENGTH],
+    store: &Store,
     refs: &mut [u16; Lent::REFS],
     words: &[u64; Lent::WORDS],
     at: usize,
@@ -51,7 +53,7 @@ pub fn read_text(
     params: usize,
 ) -> Text
     requires { m ≤ max_modules }
-    ensures { Texted (held store.now).names (held store.now).facts (context_codes (held store.now).contexts (held store.now).heads m) file.now words.now params at refs.old refs.new result }
+    ensures { Texted store.now.names store.now.facts (context_codes store.now.contexts store.now.heads m) file.now words.now params at refs.old refs.new result }
 {
     let k = look_at(file, store, refs, at, m, params);
     let form = own_form(file, refs, words, at);
@@ -65,17 +67,17 @@ pub fn read_text(
 }
 
 // The first of the causes 9, 10 and 12 that holds of a text.
-pub fn text_cause(t: Text) -> u8
-    ensures { result ≡ text_cause t }
+pub fn text_cause(t: Text) -> Result<(), Cause>
+    ensures { found_number result ≡ text_cause t }
 {
     if t.unknown {
-        return 9;
+        return Err(Cause::NameUnknown);
     }
     if t.miscounted {
-        return 10;
+        return Err(Cause::Miscounted);
     }
     if t.level == 4 {
-        return 12;
+        return Err(Cause::IllLevelled);
     }
-    0
+    Ok(())
 }

@@ -1,8 +1,8 @@
 -- What each kind of token adds: one lemma for each way through the code.
 use mathlib.Core.Path.{◌≡◌, refl, sym, ap, ◌∙◌, subst}
 use mathlib.Core.Bool.{Bool, cond, false, true}
+use Rattle.std.specs.Prelude.{Option, None, Some}
 use mathlib.Core.List.{List, ◌++◌}
-use mathlib.Core.Logic.{inl, inr}
 use Prim.Native.Nat.{ℕ, zero, suc, ◌+◌, ◌-◌, ◌*◌, ◌/◌, ◌%◌, ◌^◌, ◌≤◌, ◌<◌}
 use native.Mathlib.Nat.{div-eq_of_lt, pow-le-pow_right}
 use native.Mathlib.Omega.{arith}
@@ -14,10 +14,9 @@ use Rattle.limits.specs.Limits.{max_definitions}
 use Rattle.theory.specs.Lists.{param_levels}
 use Rattle.rows.specs.Numbers.{form_size, kind_size, row_number}
 use Rattle.rows.proofs.Numbers.{row_count, row-inner, row_low, row-none, row_word}
-use Rattle.tokens.specs.Token.{arguments_of, is_token, written_of}
+use Rattle.tokens.specs.Token.{arguments_of, written_of}
 use Rattle.tokens.specs.declared.Token.{Token}
-use Rattle.tokens.specs.declared.Token.TheVariants.{Parameter, Bound, Name, InstanceOperator, BuiltIn, Literal, NoToken}
-use Rattle.tokens.proofs.Places.{never}
+use Rattle.tokens.specs.declared.Token.TheVariants.{Parameter, Bound, Name, InstanceOperator, BuiltIn, Literal}
 use Rattle.texts.specs.Text.{named, scope}
 use Rattle.forms.specs.Labels.{coded, level_of, under, whole}
 use Rattle.forms.specs.Forms.{GivesBits, Leads, bits_at, gives, level_at}
@@ -47,7 +46,6 @@ module _ (P bits l f x : ℕ) (r : Step) where
       → Ended bits m x r → ((N : Names) (at : ℕ) → N.outer ≡ P → Says N t at bits base 0) → Plain P t bits l f x r
   ended t c i base m g e says = record {
     anywhere = λ N at o. record {
-      ok = e.ok;
       count = e.count ∙ sym c;
       inner = e.inner ∙ sym i;
       low = omega (arith, e.inner);
@@ -84,9 +82,8 @@ module _ (P bits l f x : ℕ) (r : Step) where
 
 -- a token of form w
 pub headed : (w P k e l f x m : ℕ) (led : Led) → GivesBits m (λ v. bit_or (bits_at f v) (under l (whole (w % 8)))) → Leads m l (w / 8) 0 P led
-    → Headed w P k e l f x (record { ok = true; count = k; inner = e; labels = led.labels; form = led.form; next = x })
+    → Headed w P k e l f x (record { count = k; inner = e; labels = led.labels; form = led.form; next = x })
 headed w P k e l f x m led g d = record {
-  ok = refl;
   count = refl;
   inner = refl;
   labels = d.labels;
@@ -129,7 +126,6 @@ module _ (N : Names) (at bits l f x : ℕ) (r : Step) where
   name-stepped k w e h =
       record {
         name = λ n. record {
-          ok = h.ok;
           count = h.count;
           inner = h.inner;
           low = omega (arith, h.inner);
@@ -139,7 +135,6 @@ module _ (N : Names) (at bits l f x : ℕ) (r : Step) where
           says = λ v ls _ _ c a. named-says v ls ∙ rw (h.labels, e);
         };
         operator = λ i n. record {
-          ok = h.ok;
           count = h.count;
           inner = h.inner;
           low = omega (arith, h.inner);
@@ -167,14 +162,11 @@ module _ (code bits l f x h : ℕ) (eh : h ≡ row_number code) where
       row_gives code ls c a ∙ rw (e, z, row_word code h eh, or_zero_r) refl
 
   module _ (r : Step) where
-    pub built-there : (e : ℕ) → h / kind_size < 3 → e ≡ inner_bits (h / kind_size) bits → Headed (h % form_size) 0 (h / form_size % 4) e l f x r → Built code bits l f x r
+    pub built-there : (e : ℕ) → h / kind_size < 3 → e ≡ inner_bits (h / kind_size) bits → Headed (h % form_size) 0 (h / form_size % 4) e l f x r → Built code bits l f x (Some r)
     unfolding inner_bits
-    built-there e k ee d = record {
-      low = rw (d.inner, ee) (bound-low k);
-      lost = λ z. never (sym z ∙ d.ok);
-      there = λ _ z. omega (arith, row_low code h eh k);
-      over = λ _ N at. record {
-        ok = d.ok;
+    built-there e k ee d = (
+      λ z. omega (arith, row_low code h eh k),
+      λ N at. record {
         count = d.count ∙ row_count code h eh k;
         inner = d.inner ∙ ee ∙ row-inner code h bits eh k;
         low = rw (d.inner, ee) (bound-low k);
@@ -182,46 +174,33 @@ module _ (code bits l f x h : ℕ) (eh : h ≡ row_number code) where
         base = λ v. bit_or (whole (h % form_size)) 0;
         form = d.form;
         says = row-says r.labels d.labels N at;
-      };
-    }
+      },
+    )
 
-    pub built-lost : 3 ≤ h / kind_size → (r.ok ≡ false) × (r.inner ≡ bits) → Built code bits l f x r
-    built-lost k (z, e) = record {
-      low = omega arith;
-      lost = λ _. row-none code h eh k;
-      there = λ y. never (sym z ∙ y);
-      over = λ y. never (sym z ∙ y);
-    }
+  pub built-lost : 3 ≤ h / kind_size → Built code bits l f x None
+  built-lost k = row-none code h eh k
 
 -- any token
 module _ (N : Names) (t : Token) (at bits l f x : ℕ) (r : Step) where
-  is-stepped : Stepped N t at bits l f x r → Tokened N t at bits l f x r
-  is-stepped s = record { low = s.low; lost = λ z. never (sym z ∙ s.ok); over = λ _. s }
-
   turned : (k : Token) → t ≡ k → Stepped N k at bits l f x r → Stepped N t at bits l f x r
   turned k e s = subst (λ (y : Token). Stepped N y at bits l f x r) (sym e) s
 
-  pub is-parameter : (i : ℕ) → t ≡ Parameter i → Plain N.outer (Parameter i) bits l f x r → Tokened N t at bits l f x r
-  is-parameter i e p = is-stepped (turned (Parameter i) e (p.anywhere N at refl))
+  pub is-parameter : (i : ℕ) → t ≡ Parameter i → Plain N.outer (Parameter i) bits l f x r → Tokened N t at bits l f x (Some r)
+  is-parameter i e p = turned (Parameter i) e (p.anywhere N at refl)
 
-  pub is_bound : (j : ℕ) → t ≡ Bound j → Plain N.outer (Bound j) bits l f x r → Tokened N t at bits l f x r
-  is_bound j e p = is-stepped (turned (Bound j) e (p.anywhere N at refl))
+  pub is_bound : (j : ℕ) → t ≡ Bound j → Plain N.outer (Bound j) bits l f x r → Tokened N t at bits l f x (Some r)
+  is_bound j e p = turned (Bound j) e (p.anywhere N at refl)
 
-  pub is-literal : (n : ℕ) → t ≡ Literal n → Plain N.outer (Literal n) bits l f x r → Tokened N t at bits l f x r
-  is-literal n e p = is-stepped (turned (Literal n) e (p.anywhere N at refl))
+  pub is-literal : (n : ℕ) → t ≡ Literal n → Plain N.outer (Literal n) bits l f x r → Tokened N t at bits l f x (Some r)
+  is-literal n e p = turned (Literal n) e (p.anywhere N at refl)
 
-  pub is_name_lem : (n k : ℕ) → t ≡ Name n k → Named N k at bits l f x r → Tokened N t at bits l f x r
-  is_name_lem n k e p = is-stepped (turned (Name n k) e (p.name n))
+  pub is_name_lem : (n k : ℕ) → t ≡ Name n k → Named N k at bits l f x r → Tokened N t at bits l f x (Some r)
+  is_name_lem n k e p = turned (Name n k) e (p.name n)
 
-  pub is-operator : (i n k : ℕ) → t ≡ InstanceOperator i n k → Named N k at bits l f x r → Tokened N t at bits l f x r
-  is-operator i n k e p = is-stepped (turned (InstanceOperator i n k) e (p.operator i n))
+  pub is-operator : (i n k : ℕ) → t ≡ InstanceOperator i n k → Named N k at bits l f x r → Tokened N t at bits l f x (Some r)
+  is-operator i n k e p = turned (InstanceOperator i n k) e (p.operator i n)
 
-  pub is-built-in : (c : ℕ) → t ≡ BuiltIn c → Built c bits l f x r → Tokened N t at bits l f x r
-  is-built-in c e p = record {
-    low = p.low;
-    lost = λ z. inr (ap arguments_of e ∙ p.lost z, ap written_of e);
-    over = λ z. turned (BuiltIn c) e (p.over z N at);
-  }
-
-  pub is_none : t ≡ NoToken → (r.ok ≡ false) × (r.inner ≡ bits) → Tokened N t at bits l f x r
-  is_none e (z, i) = record { low = omega arith; lost = λ _. inl (ap is_token e); over = λ y. never (sym z ∙ y) }
+module _ (N : Names) (t : Token) (at bits l f x : ℕ) where
+  pub is-built-in : (r : Option Step) (c : ℕ) → t ≡ BuiltIn c → Built c bits l f x r → Tokened N t at bits l f x r
+  is-built-in None c e p = (ap arguments_of e ∙ p, ap written_of e)
+  is-built-in (Some r) c e p = turned N t at bits l f x r (BuiltIn c) e (p.1 N at)

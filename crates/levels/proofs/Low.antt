@@ -2,7 +2,7 @@
 use mathlib.Core.Path.{◌≡◌, refl, ap}
 use mathlib.Core.Bool.{Bool, cond, false, true}
 use mathlib.Core.List.{List, ◌++◌}
-use Prim.Native.Nat.{ℕ, suc, ◌+◌, ◌-◌, ◌≤◌}
+use Prim.Native.Nat.{ℕ, suc, ◌+◌, ◌-◌}
 use native.Mathlib.Omega.{arith}
 use lib.Dec.{lit≤, ltb}
 use lib.ListN.{get_or, length}
@@ -14,7 +14,7 @@ use Rattle.theory.proofs.Levels.{levels-kept}
 use Rattle.tokens.specs.Expr.{Expr, Exprs}
 use Rattle.tokens.specs.Fold.{fold, folds, under}
 use Rattle.tokens.specs.declared.Token.{Token}
-use Rattle.tokens.specs.declared.Token.TheVariants.{Parameter, Bound, Name, InstanceOperator, BuiltIn, Literal, NoToken}
+use Rattle.tokens.specs.declared.Token.TheVariants.{Parameter, Bound, Name, InstanceOperator, BuiltIn, Literal}
 use Rattle.texts.specs.Text.{Scene, named, scope, token_level}
 use Rattle.forms.proofs.Forms.{at_low}
 use Rattle.forms.proofs.Highest.{low-param}
@@ -39,7 +39,6 @@ module _ (N : Names) (v : List ℕ) where
     token-low (InstanceOperator i n k) at bits ls a = named-low (get_or N.refs at 0) (param_levels 0 N.outer v ++ ls)
     token-low (BuiltIn c) at bits ls a = levels-kept.on_builtin c (λ _. ls) (λ _ _. a)
     token-low (Literal n) at bits ls a = lit≤ tt
-    token-low NoToken at bits ls a = lit≤ tt
 
     mutual
       pub fold-low : (t : Expr) (bits : ℕ) → IsLevel (fold (levels_at N v) bits t)

@@ -1,26 +1,25 @@
 -- The walk: one lemma for each way through its code, with the facts that the code has there as premises; and the room for bound variables.
 use mathlib.Core.Path.{◌≡◌, refl, sym, ap, ◌∙◌, subst}
 use mathlib.Core.Bool.{Bool, cond, false, true}
+use Rattle.std.specs.Prelude.{Option, None, Some}
 use mathlib.Core.List.{List, ◌∷◌}
-use mathlib.Core.Logic.{◌⊎◌, inl, inr}
 use Prim.Native.Nat.{ℕ, suc, ◌+◌, ◌-◌, ◌*◌, ◌/◌, ◌%◌, ◌^◌, ◌≤◌, ◌<◌}
 use native.Mathlib.Nat.{pow-succ', pow-le-pow_right}
 use native.Mathlib.Omega.{arith}
-use borrow.Author.Tests.{eq-eqb, le-leb, ne_eqb}
 use lib.Bits.{bit_or, or_zero_r}
 use lib.Dec.{eqb, leb}
 use lib.ListN.{get_or, length}
 use lib.Pow.{pow_pos}
+use Rattle.tokens.proofs.Tags.{reads-code, reads-no-code, reads-parameter}
 use Rattle.limits.specs.Limits.{max_arity, max_nesting}
 use Rattle.theory.specs.Level.{IsLevel}
 use Rattle.theory.specs.Lists.{All}
-use Rattle.theory.specs.Tree.{◌▹◌, count, ⟨⟩}
-use Rattle.rows.specs.Rows.{arity_of, no_code}
-use Rattle.tokens.specs.Token.{arguments_of, is_token, tagged_at, token_at, width_of, written_of}
+use Rattle.theory.specs.Tree.{◌▹◌, ⟨⟩}
+use Rattle.tokens.specs.Token.{arguments_of, token_at, width_of}
 use Rattle.tokens.specs.Expr.{Expr, Found, Founds, after as behind, before, expr_at, found, founds, none, nones, over, several}
 use Rattle.tokens.specs.Fold.{fold, folds, under as scoped, under_of}
 use Rattle.tokens.specs.declared.Token.{Token}
-use Rattle.tokens.specs.declared.Token.TheVariants.{Parameter, BuiltIn, NoToken}
+use Rattle.tokens.specs.declared.Token.TheVariants.{Parameter, BuiltIn}
 use Rattle.tokens.proofs.Folding.{Scoped, scoped_at}
 use Rattle.tokens.proofs.Places.{never, written_count}
 use Rattle.tokens.proofs.Reading.{expr-more, expr-none, expr-zero, several-more}
@@ -32,7 +31,7 @@ use Rattle.forms.proofs.Forms.{bits-base}
 use Rattle.levels.specs.declared.steps.Step.{Step}
 use Rattle.levels.specs.declared.Under.{Under}
 use Rattle.levels.specs.Tables.{Names, levels_at, scene_of}
-use Rattle.levels.specs.Walk.{Adds, AddsAll, Built, Fits, Plain, Room, Says, Stepped, Steps, TextForm, Tokened, inside}
+use Rattle.levels.specs.Walk.{Adds, AddsAll, Built, Fits, Lost, Passed, Plain, Room, Says, Stepped, Steps, TextForm, Tokened, inside}
 use Rattle.levels.proofs.Counted.{CountedsAt, counted, counted-several}
 use Rattle.levels.proofs.Low.{fold-low, folds-length, folds-low}
 
@@ -43,6 +42,11 @@ first-digit l labels d r e h = record { same = h.same ∙ ap (after l) e ∙ aft
 -- what arguments inherit
 abbrev pub inherit : ℕ → ℕ → ℕ → ℕ → Under
 inherit outer last l labels = record { around = outer; within = last; label = l; labels = labels }
+
+-- a built-in that stands somewhere exists
+code-there : (s : List ℕ) (at : ℕ) (t : Token) → token_at s at ≡ Some t → Lost t → ⊥
+code-there s at t there (a, w) =
+    never (sym (sym (ap (λ (k : ℕ). leb k max_arity) w) ∙ written_count s at t there ∙ ap (λ (k : ℕ). leb k max_arity) a))
 
 module _ (N : Names) where
   -- ---- a token over its arguments
@@ -98,77 +102,39 @@ module _ (N : Names) where
 
   -- ---- a step
   module _ (s : List ℕ) (at bits l f : ℕ) (r : Step) where
-    -- where nothing stands
-    pub steps-nothing : (t : Token) (i : Bool) → t ≡ token_at s at → i ≡ is_token t → i ≡ false → (r.ok ≡ false) × (r.inner ≡ bits) → Steps N s at bits l f r
-    steps-nothing t i et ei z (y, e) = record {
-      low = omega arith;
-      lost = λ _ n. expr-none n s at (ap is_token (sym et) ∙ sym ei ∙ z);
-      over = λ q. never (sym y ∙ q);
-    }
-
-    steps-over : (t : Token) → t ≡ token_at s at → is_token t ≡ true → Stepped N t at bits l f (at + width_of t) r
+    steps-over : (t : Token) → token_at s at ≡ Some t → Stepped N t at bits l f (at + width_of t) r
         → (n : ℕ) → (n ≡ 0 → ⊥) → (more next : ℕ)
         → AddsAll N (inside bits l r) r.form (several (expr_at (n - 1) s) r.next r.count) more next
         → Adds N bits l f (expr_at n s at) more next
-    steps-over t et it st n z more next h =
-        let there : is_token (token_at s at) ≡ true = ap is_token (sym et) ∙ it in
-        rw (expr-more n s at z there, ← et)
+    steps-over t there st n z more next h =
+        rw (expr-more n s at t z there)
         (put-over t at bits l f r.form r.labels st.base st.form st.says (several (expr_at (n - 1) s) (at + width_of t) (arguments_of t)) more next
         (counted-several (expr_at (n - 1) s) (λ p. counted (n - 1) s p) (arguments_of t) (at + width_of t))
         (rw (st.inner, st.next, st.count) at h))
 
-    -- a built-in that stands somewhere exists
-    code-there : (t : Token) → t ≡ token_at s at → is_token t ≡ true → arguments_of t ≡ no_code → (written_of t ≡ 0) → ⊥
-    code-there t et it a w =
-        let e = written_count s at in
-        let p : leb (written_of t) max_arity ≡ leb (arguments_of t) max_arity = subst (λ (y : Token). leb (written_of y) max_arity ≡ leb (arguments_of y) max_arity) (sym et) e in
-        never (sym (sym (ap (λ (k : ℕ). leb k max_arity) w) ∙ p ∙ ap (λ (k : ℕ). leb k max_arity) a))
-
-    pub steps-token : (t : Token) (i : Bool) → t ≡ token_at s at → i ≡ is_token t → i ≡ true → (w : ℕ) → w ≡ width_of t → Tokened N t at bits l f (at + w) r
-        → Steps N s at bits l f r
-    steps-token t i et ei it w ew k = record {
-      low = k.low;
-      lost = λ z n. absurd (lost (k.lost z));
-      over = λ z. steps-over t et (sym ei ∙ it) (subst (λ (y : ℕ). Stepped N t at bits l f (at + y) r) ew (k.over z));
-    }
-      where
-        lost : (is_token t ≡ false) ⊎ ((arguments_of t ≡ no_code) × (written_of t ≡ 0)) → ⊥
-        lost (inl y) = never (sym y ∙ sym ei ∙ it)
-        lost (inr y) = code-there t et (sym ei ∙ it) y.0 y.1
-
-    -- where two bytes are left
     module _ (x tag : ℕ) (left : 1 < length s - at) (ex : x ≡ get_or s (at + 1) 0) (et : tag ≡ get_or s at 0) where
-      reads-parameter : tag ≡ 0 → Parameter x ≡ token_at s at
-      unfolding token_at tagged_at
-      reads-parameter z = rw (← et, z, ← ex, le-leb (at + 2) (length s) (omega arith)) refl
-
-      reads-code : tag ≡ 4 → (arity_of x ≡ no_code → ⊥) → BuiltIn x ≡ token_at s at
-      unfolding token_at tagged_at
-      reads-code z h = rw (← et, z, ← ex, ne_eqb (arity_of x) no_code h, le-leb (at + 2) (length s) (omega arith)) refl
-
-      reads-no-code : tag ≡ 4 → arity_of x ≡ no_code → NoToken ≡ token_at s at
-      unfolding token_at tagged_at
-      reads-no-code z h = rw (← et, z, ← ex, eq-eqb (arity_of x) no_code h) (go (leb (at + 0) (length s)))
-        where
-          go : (b : Bool) → NoToken ≡ cond b NoToken NoToken
-          go true = refl
-          go false = refl
-
-      pub steps-parameter : tag ≡ 0 → Plain N.outer (Parameter x) bits l f (at + 2) r → Steps N s at bits l f r
+      pub steps-parameter : tag ≡ 0 → Plain N.outer (Parameter x) bits l f (at + 2) r → Passed N s at bits l f r
       steps-parameter z p =
           let st = p.anywhere N at refl in
-          record {
-            low = st.low;
-            lost = λ y. never (sym y ∙ st.ok);
-            over = λ _. steps-over (Parameter x) (reads-parameter z) refl st;
-          }
+          record { low = st.low; over = steps-over (Parameter x) (reads-parameter s at x tag left ex et z) st }
 
-      pub steps-code : tag ≡ 4 → Built x bits l f (at + 2) r → Steps N s at bits l f r
-      steps-code z p = record {
-        low = p.low;
-        lost = λ y n. expr-none n s at (ap is_token (sym (reads-no-code z (p.lost y))));
-        over = λ y. steps-over (BuiltIn x) (reads-code z (p.there y)) refl (p.over y N at);
-      }
+  -- ---- a step, or none
+  module _ (s : List ℕ) (at bits l f : ℕ) where
+    -- where nothing stands
+    pub steps-nothing : (o : Option Token) → o ≡ token_at s at → o ≡ None → Steps N s at bits l f None
+    steps-nothing o et z n = expr-none n s at (sym et ∙ z)
+
+    pub steps-token : (r : Option Step) (o : Option Token) (t : Token) → o ≡ token_at s at → o ≡ Some t → (w : ℕ) → w ≡ width_of t → Tokened N t at bits l f (at + w) r
+        → Steps N s at bits l f r
+    steps-token (Some r) o t et it w ew k =
+        record { low = k.low; over = steps-over s at bits l f r t (sym et ∙ it) (subst (λ (y : ℕ). Stepped N t at bits l f (at + y) r) ew k) }
+    steps-token None o t et it w ew k = λ n. absurd (code-there s at t (sym et ∙ it) k)
+
+    pub steps-code : (r : Option Step) (x tag : ℕ) → 1 < length s - at → x ≡ get_or s (at + 1) 0 → tag ≡ get_or s at 0 → tag ≡ 4 → Built x bits l f (at + 2) r → Steps N s at bits l f r
+    steps-code None x tag left ex et z p = λ n. expr-none n s at (reads-no-code s at x tag left ex et z p)
+    steps-code (Some r) x tag left ex et z p =
+        let st = p.1 N at in
+        record { low = st.low; over = steps-over s at bits l f r (BuiltIn x) (reads-code s at x tag left ex et z p.0) st }
 
 -- ---- the room for bound variables
 module _ (n bits : ℕ) where
@@ -237,11 +203,11 @@ module _ (N : Names) (s : List ℕ) (at count nesting : ℕ) (u : Under) (start 
       pub going-low : e < 2 ^ 63
       going-low = room-inside nest e going-room
 
-      module _ (d : ℕ) (ed : Digit (after label labels) d) (t : Step) (steps : Steps N s pos e d form t) where
-        pub stop-token : t.ok ≡ false → Asked form pos
-        stop-token z = stop some (steps.lost z nest) form pos
+      pub stop-token : (d : ℕ) → Steps N s pos e d form None → Asked form pos
+      stop-token d lost = stop some (lost nest) form pos
 
-        module _ (there : t.ok ≡ true) (more : nest ≡ 0 → ⊥) where
+      module _ (d : ℕ) (ed : Digit (after label labels) d) (t : Step) (steps : Passed N s pos e d form t) where
+        module _ (more : nest ≡ 0 → ⊥) where
           pub going-below : Room (nest - 1) e
           going-below = room-below nest e more going-room
 
@@ -273,17 +239,17 @@ module _ (N : Names) (s : List ℕ) (at count nesting : ℕ) (u : Under) (start 
           pub going-leaf : t.count ≡ 0 → Going N s at count nesting u start t.form t.next (k - 1) nest outer last label (labels / 8)
           going-leaf z =
               go_on t.form t.next
-              (steps.over there nest more t.form t.next (all_none N e t.inner d t.labels t.form s (nest - 1) t.next t.count z))
+              (steps.over nest more t.form t.next (all_none N e t.inner d t.labels t.form s (nest - 1) t.next t.count z))
 
           pub going_on : (m n : ℕ) → AddsAll N (inside e d t) t.form (several (expr_at (nest - 1) s) t.next t.count) m n
               → Going N s at count nesting u start m n (k - 1) nest outer last label (labels / 8)
-          going_on m n a = go_on m n (steps.over there nest more m n a)
+          going_on m n a = go_on m n (steps.over nest more m n a)
 
           -- the last argument: what is left is its arguments
           pub going-inside : k ≡ 1 → Going N s at count nesting u start t.form t.next t.count (nest - 1) e t.inner d t.labels
           going-inside z = record {
             whole = λ y x g.
-                (go_on y x (steps.over there nest more y x g)).whole y x
+                (go_on y x (steps.over nest more y x g)).whole y x
                 (all_none N outer last label (labels / 8) y s nest x (k - 1) (omega arith));
             deep = omega (arith, inv.deep);
             free = going-below;

@@ -29,6 +29,10 @@ pub record Names : Type 0 where
 abbrev pub names_of : List ℕ → List ℕ → List ℕ → ℕ → Names
 names_of refs numbers words P = record { refs = refs; numbers = numbers; words = words; outer = P }
 
+-- the form of what the name at a position was resolved to
+abbrev pub form_named : Names → ℕ → ℕ
+form_named N at = form_at N.words (place_of N.numbers (get_or N.refs at 0))
+
 -- the level of a text with the parameters at levels v
 abbrev pub levels_at : Names → List ℕ → Algebra ℕ ℕ (List ℕ)
 levels_at N v = levels N.refs (scene_of N.numbers N.words) N.outer v

@@ -1,11 +1,11 @@
 -- What the walk over a text adds to a form: at each node, the node's own level under the label of its place. Definitions only.
-use Rattle.std.specs.Prelude.{◌≡◌, cond, false, true, ◌⊎◌, List, ℕ, ◌+◌, ◌-◌, ◌*◌, ◌/◌, ◌^◌, ◌≤◌, ◌<◌, eqb, length}
+use Rattle.std.specs.Prelude.{◌≡◌, Option, None, Some, cond, List, ℕ, ◌+◌, ◌-◌, ◌*◌, ◌/◌, ◌^◌, ◌≤◌, ◌<◌, eqb, length}
 use Rattle.std.specs.Int.Bits.{bit_or}
 use Rattle.limits.specs.Limits.{max_nesting}
 use Rattle.theory.specs.Level.{IsLevel}
 use Rattle.theory.specs.Lists.{All, param_levels}
 use Rattle.rows.specs.Rows.{arity_of, no_code}
-use Rattle.tokens.specs.Token.{arguments_of, is_token, written_of}
+use Rattle.tokens.specs.Token.{arguments_of, written_of}
 use Rattle.tokens.specs.Expr.{Expr, Found, Founds, expr_at, found, founds, none, nones, several}
 use Rattle.tokens.specs.Fold.{fold, folds}
 use Rattle.tokens.specs.declared.Token.{Token}
@@ -37,7 +37,6 @@ Says N t at bits base labels =
 
 -- a step over the token t under label l: its base is added
 pub record Stepped (N : Names) (t : Token) (at bits l f x : ℕ) (r : Step) : Type 0 where
-  pub ok : r.ok ≡ true
   pub count : r.count ≡ arguments_of t
   pub inner : r.inner ≡ scope t bits
   pub low : r.inner ≤ bits * 2 + 1
@@ -48,7 +47,6 @@ pub record Stepped (N : Names) (t : Token) (at bits l f x : ℕ) (r : Step) : Ty
 
 -- a step with nothing more to come
 pub record Ended (bits f x : ℕ) (r : Step) : Type 0 where
-  pub ok : r.ok ≡ true
   pub count : r.count ≡ 0
   pub inner : r.inner ≡ bits
   pub labels : r.labels ≡ 0
@@ -57,7 +55,6 @@ pub record Ended (bits f x : ℕ) (r : Step) : Type 0 where
 
 -- a step over a token of form w, the first P labels of which are those of the instances' parameters
 pub record Headed (w P k e l f x : ℕ) (r : Step) : Type 0 where
-  pub ok : r.ok ≡ true
   pub count : r.count ≡ k
   pub inner : r.inner ≡ e
   pub labels : r.labels ≡ w / 8 / 8 ^ P
@@ -77,30 +74,35 @@ pub record Named (N : Names) (k at bits l f x : ℕ) (r : Step) : Type 0 where
   pub name : (n : ℕ) → Stepped N (Name n k) at bits l f x r
   pub operator : (i n : ℕ) → Stepped N (InstanceOperator i n k) at bits l f x r
 
--- a built-in, where its code exists
-pub record Built (code bits l f x : ℕ) (r : Step) : Type 0 where
-  pub low : r.inner ≤ bits * 2 + 1
-  pub lost : r.ok ≡ false → arity_of code ≡ no_code
-  pub there : r.ok ≡ true → (arity_of code ≡ no_code → ⊥)
-  pub over : r.ok ≡ true → (N : Names) (at : ℕ) → Stepped N (BuiltIn code) at bits l f x r
+-- a built-in, or none of that code
+abbrev pub Built : (code bits l f x : ℕ) → Option Step → Type 0
+Built code bits l f x None = arity_of code ≡ no_code
+Built code bits l f x (Some r) = (arity_of code ≡ no_code → ⊥) × ((N : Names) (at : ℕ) → Stepped N (BuiltIn code) at bits l f x r)
 
--- a step over any token, or over one that is none
-pub record Tokened (N : Names) (t : Token) (at bits l f x : ℕ) (r : Step) : Type 0 where
-  pub low : r.inner ≤ bits * 2 + 1
-  pub lost : r.ok ≡ false → (is_token t ≡ false) ⊎ ((arguments_of t ≡ no_code) × (written_of t ≡ 0))
-  pub over : r.ok ≡ true → Stepped N t at bits l f x r
+-- a code that does not exist
+abbrev pub Lost : Token → Type 0
+Lost t = (arguments_of t ≡ no_code) × (written_of t ≡ 0)
+
+-- a step over any token
+abbrev pub Tokened : Names → Token → (at bits l f x : ℕ) → Option Step → Type 0
+Tokened N t at bits l f x None = Lost t
+Tokened N t at bits l f x (Some r) = Stepped N t at bits l f x r
 
 -- what the arguments of a token inherit
 abbrev pub inside : ℕ → ℕ → Step → Under
 inside bits l r = record { around = bits; within = r.inner; label = l; labels = r.labels }
 
--- A step over whatever stands at a position: what its arguments add, after what it adds itself, is what the expression there adds.
-pub record Steps (N : Names) (s : List ℕ) (at bits l form : ℕ) (r : Step) : Type 0 where
+-- A step over what stands at a position: what its arguments add, after what it adds itself, is what the expression there adds.
+pub record Passed (N : Names) (s : List ℕ) (at bits l form : ℕ) (r : Step) : Type 0 where
   pub low : r.inner ≤ bits * 2 + 1
-  pub lost : r.ok ≡ false → (n : ℕ) → expr_at n s at ≡ none
-  pub over : r.ok ≡ true → (n : ℕ) → (n ≡ 0 → ⊥) → (more next : ℕ)
+  pub over : (n : ℕ) → (n ≡ 0 → ⊥) → (more next : ℕ)
       → AddsAll N (inside bits l r) r.form (several (expr_at (n - 1) s) r.next r.count) more next
       → Adds N bits l form (expr_at n s at) more next
+
+-- such a step, or none, where no expression stands
+abbrev pub Steps : Names → (s : List ℕ) → (at bits l form : ℕ) → Option Step → Type 0
+Steps N s at bits l form None = (n : ℕ) → expr_at n s at ≡ none
+Steps N s at bits l form (Some r) = Passed N s at bits l form r
 
 -- as many levels of bound variables may still be put before these as there is nesting left
 unfoldable pub Room : ℕ → ℕ → Type 0

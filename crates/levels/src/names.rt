@@ -7,7 +7,7 @@ ghost use Rattle.levels.specs.Tables.{place_of};
 use limits::Limits;
 
 // The number at a place, 0 past the end.
-fn number_at(t: &[u16], i: usize) -> u16
+pub fn number_at(t: &[u16], i: usize) -> u16
     ensures { result ≡ get_or t.now i 0 }
 {
     if i < t.len() { t[i] } else { 0 }
@@ -32,23 +32,12 @@ pub fn form_at(words: &[u64], g: usize) -> u64
     if g < words.len() { words[g] } else { 0 }
 }
 
-// The form of what the name at a position was resolved to.
-pub fn name_form(refs: &[u16], numbers: &[u16], words: &[u64], at: usize) -> u64
-    ensures { result ≡ get_or words.now (place_of numbers.now (get_or refs.now at 0)) 0 }
-{
-    let r = number_at(refs, at);
-    let g = place_of(numbers, r);
-    form_at(words, g)
-}
-
 // Where the text's module is the world's: each definition is itself.
 pub fn identity(numbers: &mut [u16])
     requires { length numbers.old ≡ max_definitions }
     ensures { numbers.new ≡ numbers_from 0 max_definitions }
 {
-    let mut i: usize = 0;
-    while i < Limits::DEFINITIONS {
+    for i in 0..Limits::DEFINITIONS {
         numbers[i] = i as u16;
-        i += 1;
     }
 }

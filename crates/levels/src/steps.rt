@@ -1,17 +1,15 @@
 // What a token says where it stands.
-ghost use Rattle.std.specs.Prelude.{◌≡◌, false, ◌/◌, ◌%◌, ◌^◌, ◌≤◌, ◌<◌};
+ghost use Rattle.std.specs.Prelude.{◌≡◌, ◌/◌, ◌%◌, ◌^◌, ◌≤◌, ◌<◌};
 ghost use Rattle.limits.specs.Limits.{max_arity};
 ghost use Rattle.tokens.specs.declared.Token.TheVariants.{Bound, Literal, Parameter};
-ghost use Rattle.rows.specs.Numbers.{row_column};
 ghost use Rattle.levels.specs.Walk.{Built, Ended, Headed, Plain, inner_bits};
 
-use rows::Rows;
+use rows::{RowColumn, Rows};
 
-// Whether there is one, how many arguments follow and the labels that it gives them, the levels of the variables that are bound in the last of
-// them, the form with its own level added, and the position after it.
+// A token: how many arguments follow and the labels that it gives them, the levels of the variables that are bound in the last of them, the form
+// with its own level added, and the position after it.
 #[derive(Clone, Copy)]
 pub struct Step {
-    pub ok: bool,
     pub count: u8,
     pub inner: u64,
     pub labels: u64,
@@ -34,21 +32,6 @@ fn leaf(bits: u64, form: u64, next: usize) -> Step
     ensures { Ended bits form next result }
 {
     Step {
-        ok: true,
-        count: 0,
-        inner: bits,
-        labels: 0,
-        form,
-        next,
-    }
-}
-
-// Where no token stands.
-pub fn no_step(bits: u64, form: u64, next: usize) -> Step
-    ensures { (result.ok ≡ false) × (result.inner ≡ bits) }
-{
-    Step {
-        ok: false,
         count: 0,
         inner: bits,
         labels: 0,
@@ -89,7 +72,6 @@ pub fn head_step(w: u64, outer: usize, count: u8, inner: u64, l: u8, form: u64, 
     let more = forms::add_level(form, l, (w % 8) as u8);
     let led = forms::add_params(more, l, w / 8, 0, outer);
     Step {
-        ok: true,
         count,
         inner,
         labels: led.labels,
@@ -110,23 +92,25 @@ fn bind(kind: u16, bits: u64) -> u64
     }
 }
 
-pub fn built_in_step(column: &[u16], code: u8, bits: u64, l: u8, form: u64, next: usize) -> Step
-    requires { (column.now ≡ row_column) × (l < 8) × (bits < 2 ^ 63) }
+// A built-in, where its code exists.
+pub fn built_in_step(
+    column: &RowColumn,
+    code: u8,
+    bits: u64,
+    l: u8,
+    form: u64,
+    next: usize,
+) -> Option<Step>
+    requires { (l < 8) × (bits < 2 ^ 63) }
     ensures { Built code bits l form next result }
 {
-    let h = rows::row_in(column, code);
+    let h = column.row(code);
     let kind = h / Rows::KINDS;
     if kind < Rows::NO_KIND {
         let inner = bind(kind, bits);
-        return head_step(
-            (h % Rows::FORMS) as u64,
-            0,
-            (h / Rows::FORMS % Rows::COUNTS) as u8,
-            inner,
-            l,
-            form,
-            next,
-        );
+        let count = (h / Rows::FORMS % Rows::COUNTS) as u8;
+        Some(head_step((h % Rows::FORMS) as u64, 0, count, inner, l, form, next))
+    } else {
+        None
     }
-    no_step(bits, form, next)
 }

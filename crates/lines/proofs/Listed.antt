@@ -23,7 +23,9 @@ use Rattle.text_levels.proofs.OwnWorld.{Shows}
 use Rattle.context.specs.Holds.{Holds}
 use Rattle.context.specs.Lookup.{arity_at}
 use Rattle.context.specs.Entries.{described_as, path_of}
-use Rattle.store.specs.Store.{Store, kind_at, via_at}
+use Rattle.store.specs.Store.{kind_at, via_at}
+use Rattle.store.specs.declared.Store.{Store}
+use Rattle.store.specs.declared.Facts.{Facts}
 use Rattle.context.specs.declared.Counts.{Counts}
 use Rattle.standing.specs.Standing.{itselves}
 use Rattle.lines.specs.Text.{card_digits, line_at, lines_of, text_of}
@@ -34,7 +36,7 @@ path-name zero = refl
 path-name (suc n) = refl
 
 -- lines after those of the first k definitions
-module _ (names facts words : List ℕ) (s : State) where
+module _ (names : List ℕ) (facts : List Facts) (words : List ℕ) (s : State) where
   lines_split : (k : ℕ) (ds : List Added) → ((i : ℕ) → i < length ds → line_at names facts words (k + i) ≡ definition_line s (k + i) (get_or ds i no_definition))
       → lines_of names facts words (k + length ds) ≡ lines_of names facts words k ++ definition_lines s k ds
   lines_split k [] h = ap (lines_of names facts words) (let z : k + 0 ≡ k = omega arith in z) ∙ sym (append-nil (lines_of names facts words k))

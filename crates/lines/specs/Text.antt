@@ -5,6 +5,7 @@ use Rattle.theory.specs.Card.{card_of}
 use Rattle.rules.specs.Listing.{decimal, hexadecimal, line}
 use Rattle.forms.specs.Forms.{form_at, level_at}
 use Rattle.store.specs.Store.{via_at}
+use Rattle.store.specs.declared.Facts.{Facts}
 use Rattle.context.specs.Lookup.{arity_at}
 
 -- "the card's 32 lower-case hexadecimal digits"
@@ -16,12 +17,12 @@ abbrev pub number : ℕ → ℕ → List ℕ
 number k after = decimal k ++ (after ∷ [])
 
 -- "number, instance name or 0, name, parameter count", and the card
-unfoldable pub line_at : List ℕ → List ℕ → List ℕ → ℕ → List ℕ
+unfoldable pub line_at : List ℕ → List Facts → List ℕ → ℕ → List ℕ
 line_at names facts words g =
     line (decimal g ∷ decimal (via_at facts g) ∷ decimal (get_or names g 0) ∷ decimal (arity_at facts g) ∷ card_digits (arity_at facts g) (level_at (form_at words g)) ∷ [])
 
 -- of the first n definitions
-abbrev pub lines_of : List ℕ → List ℕ → List ℕ → ℕ → List ℕ
+abbrev pub lines_of : List ℕ → List Facts → List ℕ → ℕ → List ℕ
 lines_of names facts words zero = []
 lines_of names facts words (suc n) = lines_of names facts words n ++ line_at names facts words n
 
@@ -29,7 +30,7 @@ lines_of names facts words (suc n) = lines_of names facts words n ++ line_at nam
 abbrev pub heading : ℕ → List ℕ
 heading n = line ((111 ∷ 107 ∷ []) ∷ decimal n ∷ [])
 
-abbrev pub text_of : List ℕ → List ℕ → List ℕ → ℕ → List ℕ
+abbrev pub text_of : List ℕ → List Facts → List ℕ → ℕ → List ℕ
 text_of names facts words n = heading n ++ lines_of names facts words n
 
 -- the word of a refusal and the space after it

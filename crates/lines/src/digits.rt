@@ -36,11 +36,9 @@ pub fn put_card(f: u64, n: usize, out: &mut [u8], at: usize) -> usize
 {
     let card = card_of(f, n);
     let mut next = at;
-    let mut k: usize = 0;
-    while k < Limits::CARD_BYTES {
+    for k in 0..Limits::CARD_BYTES {
         let b = byte_of(card, k);
         next = put_hex(out, next, b);
-        k += 1;
     }
     next
 }

@@ -1,7 +1,7 @@
 // The listing of the definitions that the store holds, and the line of a refusal.
 ghost use Rattle.std.specs.Prelude.{◌++◌, ◌≡◌, ◌+◌, ◌≤◌, ◌<◌, get_or, length};
 ghost use Rattle.limits.specs.Limits.{max_definitions};
-ghost use Rattle.store.specs.Store.{held, via_at};
+ghost use Rattle.store.specs.Store.{via_at};
 ghost use Rattle.rules.specs.Run.{overwrite};
 ghost use Rattle.lines.specs.Text.{heading, line_at, line_room, lines_of, number, refusal_text, refused_word, text_of, text_room};
 ghost use Rattle.lines.specs.Writes.{Writes};
@@ -11,7 +11,6 @@ use crate::numbers::{put_byte, put_number};
 use context::lookup::params_at;
 use levels::names::form_at;
 use limits::Limits;
-use store::reading::{fact_at, name_at};
 use store::{Lent, Store};
 
 const SPACE: u8 = 32;
@@ -19,27 +18,21 @@ const SPACE: u8 = 32;
 const LINE_FEED: u8 = 10;
 
 // A definition's number, its instance's name or 0, its name.
-fn put_names(store: &[u16; Store::LENGTH], g: usize, out: &mut [u8], at: usize) -> usize
+fn put_names(store: &Store, g: usize, out: &mut [u8], at: usize) -> usize
     requires { (g < max_definitions) × (at + 18 ≤ length out.old) }
-    ensures { Writes out.old out.new at (number g 32 ++ number (via_at (held store.now).facts g) 32 ++ number (get_or (held store.now).names g 0) 32) result × (result ≤ at + 18) }
+    ensures { Writes out.old out.new at (number g 32 ++ number (via_at store.now.facts g) 32 ++ number (get_or store.now.names g 0) 32) result × (result ≤ at + 18) }
 {
-    let via = fact_at(store, Limits::COLUMNS * g + 3) as usize;
-    let name = name_at(store, g) as usize;
+    let via = store.via_at(g) as usize;
+    let name = store.name_at(g) as usize;
     let next = put_number(out, at, g, SPACE);
     let more = put_number(out, next, via, SPACE);
     put_number(out, more, name, SPACE)
 }
 
 // The line of definition g.
-fn put_line(
-    store: &[u16; Store::LENGTH],
-    words: &[u64; Lent::WORDS],
-    g: usize,
-    out: &mut [u8],
-    at: usize,
-) -> usize
+fn put_line(store: &Store, words: &[u64; Lent::WORDS], g: usize, out: &mut [u8], at: usize) -> usize
     requires { (g < max_definitions) × (at + line_room ≤ length out.old) }
-    ensures { Writes out.old out.new at (line_at (held store.now).names (held store.now).facts words.now g) result × (result ≤ at + line_room) }
+    ensures { Writes out.old out.new at (line_at store.now.names store.now.facts words.now g) result × (result ≤ at + line_room) }
 {
     let k = params_at(store, g);
     let f = form_at(words, g);
@@ -62,33 +55,26 @@ fn put_heading(n: usize, out: &mut [u8]) -> usize
 
 // The lines of the first n definitions, from place at on.
 fn put_lines(
-    store: &[u16; Store::LENGTH],
+    store: &Store,
     words: &[u64; Lent::WORDS],
     n: usize,
     out: &mut [u8],
     at: usize,
 ) -> usize
     requires { (n ≤ max_definitions) × (at ≤ 9) × (text_room ≤ length out.old) }
-    ensures { Writes out.old out.new at (lines_of (held store.now).names (held store.now).facts words.now n) result × (result ≤ text_room) }
+    ensures { Writes out.old out.new at (lines_of store.now.names store.now.facts words.now n) result × (result ≤ text_room) }
 {
     let mut next = at;
-    let mut g: usize = 0;
-    while g < n {
+    for g in 0..n {
         next = put_line(store, words, g, out, next);
-        g += 1;
     }
     next
 }
 
 // The listing of n definitions at the front of out; every other byte stays.
-pub fn write_listing(
-    store: &[u16; Store::LENGTH],
-    words: &[u64; Lent::WORDS],
-    n: usize,
-    out: &mut [u8],
-) -> usize
+pub fn write_listing(store: &Store, words: &[u64; Lent::WORDS], n: usize, out: &mut [u8]) -> usize
     requires { (n ≤ max_definitions) × (text_room ≤ length out.old) }
-    ensures { (out.new ≡ overwrite (text_of (held store.now).names (held store.now).facts words.now n) out.old) × (result ≡ length (text_of (held store.now).names (held store.now).facts words.now n)) × (result ≤ text_room) }
+    ensures { (out.new ≡ overwrite (text_of store.now.names store.now.facts words.now n) out.old) × (result ≡ length (text_of store.now.names store.now.facts words.now n)) × (result ≤ text_room) }
 {
     let at = put_heading(n, out);
     put_lines(store, words, n, out, at)

@@ -12,14 +12,15 @@ use Rattle.theory.proofs.Lists.{or-true}
 use Rattle.rules.specs.Bytes.{is_empty}
 use Rattle.rules.specs.Listing.{listing, listing_of}
 use Rattle.rules.specs.Run.{checked, judge_file, overwrite, refusal}
-use Rattle.store.specs.Store.{Store, empty}
+use Rattle.store.specs.declared.Store.{Store}
+use Rattle.store.specs.declared.Facts.{Facts}
 use Rattle.context.specs.declared.Counts.{Counts}
 use Rattle.resolve.proofs.Numbers.{declarations_of}
 use Rattle.checker.specs.Settles.{Settles}
-use Rattle.checker.specs.declared.Reply.{Reply}
-use Rattle.checker.specs.declared.Reply.TheVariants.{Accepted, Refused}
+use Rattle.refusals.specs.declared.Refusal.{Refusal}
+use Rattle.std.specs.Prelude.{Result, Ok, Err}
 use Rattle.lines.proofs.Listed.{text-listed}
-use Rattle.lines.specs.Text.{refusal_text, text_of, text_room}
+use Rattle.lines.specs.Text.{refusal_text, text_room}
 use Rattle.list_file.specs.Replies.{reply_text}
 
 -- the check's three cases, whatever the memory, if it is large enough
@@ -35,14 +36,13 @@ size-checked file memory room wrong =
 enough : card_memory_bytes ≤ length (replicate {A = ℕ} card_memory_bytes 0)
 enough = rw (length-replicate {A = ℕ} card_memory_bytes 0) (omega arith)
 
-pub reply-listed : (file : List ℕ) (v : Store) (c : Counts) (refs words : List ℕ) (r : Reply) → is_empty file ≡ false → length file ≤ file_bytes
-    → Settles file v c refs words r → reply_text v.names v.facts words r ≡ listing_of file
-reply-listed file v c refs words (Accepted n) some fits x =
+pub reply-listed : (file : List ℕ) (v : Store) (refs words : List ℕ) (r : Result Counts Refusal) → is_empty file ≡ false → length file ≤ file_bytes
+    → Settles file v refs words r → reply_text v.names v.facts words r ≡ listing_of file
+reply-listed file v refs words (Ok c) some fits x =
     let s = x.stands in
-    ap (text_of v.names v.facts words) (sym x.counted)
-    ∙ text-listed v c x.state words (declarations_of x.fields) s.holds s.within s.forms
+    text-listed v c x.state words (declarations_of x.fields) s.holds s.within s.forms
     ∙ ap listing (sym (fields-checked file (replicate card_memory_bytes 0) enough some fits ∙ x.accepted))
-reply-listed file v c refs words (Refused k p) some fits x = ap listing (sym (fields-checked file (replicate card_memory_bytes 0) enough some fits ∙ x))
+reply-listed file v refs words (Err r) some fits x = ap listing (sym (fields-checked file (replicate card_memory_bytes 0) enough some fits ∙ x))
 
 -- "file empty or over its limit"
 pub empty-listed : (file : List ℕ) → length file ≡ 0 → refusal_text 2 0 ≡ listing_of file
@@ -65,5 +65,5 @@ Front before after text r = (after ≡ overwrite text before) × (r ≡ length t
 pub front-as : (before after a b : List ℕ) (r : ℕ) → Front before after a r → a ≡ b → Front before after b r
 front-as before after a b r f e = subst (λ (t : List ℕ). Front before after t r) e f
 
-pub text_in : (names facts words : List ℕ) (r q : Reply) → r ≡ q → reply_text names facts words q ≡ reply_text names facts words r
+pub text_in : (names : List ℕ) (facts : List Facts) (words : List ℕ) (r q : Result Counts Refusal) → r ≡ q → reply_text names facts words q ≡ reply_text names facts words r
 text_in names facts words r q e = ap (reply_text names facts words) (sym e)

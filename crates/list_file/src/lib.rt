@@ -3,7 +3,6 @@
 
 ghost use Rattle.std.specs.Prelude.{false, ◌≡◌, ◌≤◌, length};
 ghost use Rattle.limits.specs.Limits.{file_bytes};
-ghost use Rattle.levels.specs.Tables.{table_words};
 ghost use Rattle.rules.specs.Bytes.{is_empty};
 ghost use Rattle.rules.specs.Listing.{listing_of};
 ghost use Rattle.rules.specs.Run.{overwrite};
@@ -11,12 +10,13 @@ ghost use Rattle.tokens.proofs.Writing.{Bytes};
 ghost use Rattle.checker.specs.Settles.{Few};
 ghost use Rattle.lines.specs.Text.{text_room};
 ghost use Rattle.list_file.specs.Replies.{reply_text};
-ghost use Rattle.store.specs.Store.{empty, held};
+ghost use Rattle.store.specs.Store.{empty};
 
-use checker::Reply;
 use checker::judging::judge_fields;
+use context::Counts;
 use limits::Limits;
 use lines::{Room, write_listing, write_refusal};
+use refusals::Refusal;
 use store::{Lent, Store};
 
 #[derive(Drop)]
@@ -27,44 +27,43 @@ impl Input {
     pub const ROOM: usize = Limits::FILE_BYTES + 1;
 }
 
-// The text of a reply.
+// The text of a file that was judged.
 fn put_reply(
-    reply: Reply,
-    store: &[u16; Store::LENGTH],
+    judged: Result<Counts, Refusal>,
+    store: &Store,
     words: &[u64; Lent::WORDS],
-    out: &mut [u8],
+    out: &mut [u8; Room::TEXT],
 ) -> usize
-    requires { Few reply × (text_room ≤ length out.old) }
-    ensures { (out.new ≡ overwrite (reply_text (held store.now).names (held store.now).facts words.now reply) out.old) × (result ≡ length (reply_text (held store.now).names (held store.now).facts words.now reply)) × (result ≤ text_room) }
+    requires { Few judged }
+    ensures { (out.new ≡ overwrite (reply_text store.now.names store.now.facts words.now judged) out.old) × (result ≡ length (reply_text store.now.names store.now.facts words.now judged)) × (result ≤ text_room) }
 {
-    match reply {
-        Reply::Accepted(n) => write_listing(store, words, n, out),
-        Reply::Refused(c, p) => write_refusal(c, p, out),
+    match judged {
+        Ok(c) => write_listing(store, words, c.definitions, out),
+        Err(r) => write_refusal(r.cause, r.place, out),
     }
 }
 
 // A file of lawful size, judged in a store that is empty.
 fn list_in(
     file: &[u8],
-    out: &mut [u8],
-    store: &mut [u16; Store::LENGTH],
+    out: &mut [u8; Room::TEXT],
+    store: &mut Store,
     refs: &mut [u16; Lent::REFS],
     words: &mut [u64; Lent::WORDS],
 ) -> usize
-    requires { (text_room ≤ length out.old) × (is_empty file.now ≡ false) × (length file.now ≤ file_bytes) × Bytes file.now × (held store.old ≡ empty) × (length refs.old ≡ file_bytes) × (length words.old ≡ table_words) }
+    requires { (is_empty file.now ≡ false) × (length file.now ≤ file_bytes) × Bytes file.now × (store.old ≡ empty) }
     ensures { (out.new ≡ overwrite (listing_of file.now) out.old) × (result ≡ length (listing_of file.now)) × (result ≤ text_room) }
 {
-    let verdict = judge_fields(file, store, refs, words);
-    let reply = verdict.reply;
-    put_reply(reply, store, words, out)
+    let judged = judge_fields(file, store, refs, words);
+    put_reply(judged, store, words, out)
 }
 
 // A file of lawful size.
-fn list_fields(file: &[u8], out: &mut [u8]) -> usize
-    requires { (text_room ≤ length out.old) × (is_empty file.now ≡ false) × (length file.now ≤ file_bytes) × Bytes file.now }
+fn list_fields(file: &[u8], out: &mut [u8; Room::TEXT]) -> usize
+    requires { (is_empty file.now ≡ false) × (length file.now ≤ file_bytes) × Bytes file.now }
     ensures { (out.new ≡ overwrite (listing_of file.now) out.old) × (result ≡ length (listing_of file.now)) × (result ≤ text_room) }
 {
-    let mut store = Limits::empty_context();
+    let mut store = Store::empty();
     let mut refs = [0u16; Lent::REFS];
     let mut words = [0u64; Lent::WORDS];
     list_in(file, out, &mut store, &mut refs, &mut words)

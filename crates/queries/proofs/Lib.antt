@@ -1,4 +1,3 @@
-pub mod Outcomes
 pub mod SameCards
 pub mod Picking
 pub mod Showing

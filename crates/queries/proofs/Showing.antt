@@ -17,19 +17,21 @@ use Rattle.rules.specs.Run.{Outcome, and_then, card, memory_after, refusal, resu
 use Rattle.rules.specs.State.{Added, State, card_level, definition_at, params_of}
 use Rattle.laws.proofs.Memory.{card-at, card-size}
 use Rattle.worlds.specs.Rows.{Row}
-use Rattle.store.specs.Store.{Store, count_at, first_at}
+use Rattle.store.specs.Store.{count_at, first_at}
+use Rattle.store.specs.declared.Store.{Store}
 use Rattle.context.specs.declared.Counts.{Counts}
 use Rattle.judge_plain.specs.declared.Phase.{Phase}
 use Rattle.standing.specs.Standing.{Standing}
 use Rattle.asking.specs.Asks.{Asks}
-use Rattle.asking.specs.Reply.{outcome_of}
-use Rattle.asking.specs.declared.Asked.{Asked}
+use Rattle.refusals.specs.Outcomes.{outcome_of, refused}
+use Rattle.refusals.specs.declared.Refusal.{Refusal}
+use Rattle.std.specs.Prelude.{Result, Ok}
 use Rattle.queries.specs.Question.{alike_in, body_in, level_in}
 use Rattle.queries.specs.Replies.{Replies, alike_at, body_at, like_at, same_from}
 use Rattle.queries.specs.declared.Question.TheVariants.{Alike, Body, Level}
 use Rattle.queries.specs.declared.Question.{Question}
-use Rattle.queries.specs.declared.Replied.TheVariants.{Compared, Located, Refused}
-use Rattle.queries.specs.declared.Replied.{Replied}
+use Rattle.queries.specs.declared.Answer.TheVariants.{Compared, Located}
+use Rattle.queries.specs.declared.Answer.{Answer}
 use Rattle.queries.proofs.SameCards.{same_lists}
 
 -- the rules' replies, by whether the definitions are there
@@ -76,7 +78,7 @@ module _ (file : List ℕ) (fs : List Field) (s : State) (rs : List Row) (v : St
   alike-shown cards before e g h = go (leb c.definitions g) (leb c.definitions h) refl refl
     where
       go : (a b : Bool) → leb c.definitions g ≡ a → leb c.definitions h ≡ b
-          → alike_in (cond a (Refused 17 0) (cond b (Refused 17 0) (Compared (like_at cards g h)))) ≡ alike_reply g h s
+          → alike_in (cond a (refused 17 0) (cond b (refused 17 0) (Ok (Compared (like_at cards g h))))) ≡ alike_reply g h s
       go true b u w =
           let l : ltb g (length s.definitions) ≡ false = le-ltb g (length s.definitions) (omega (arith, counted, leb-true c.definitions g u)) in
           sym (ap (λ (x : Bool). alike_by s g h x (ltb h (length s.definitions))) l)
@@ -96,7 +98,7 @@ module _ (file : List ℕ) (fs : List Field) (s : State) (rs : List Row) (v : St
   unfolding body_at
   body-shown g = go (leb c.definitions g) refl
     where
-      go : (a : Bool) → leb c.definitions g ≡ a → body_in (cond a (Refused 17 0) (Located (first_at v.facts g) (count_at v.facts g))) ≡ body_reply g s
+      go : (a : Bool) → leb c.definitions g ≡ a → body_in (cond a (refused 17 0) (Ok (Located (first_at v.facts g) (count_at v.facts g)))) ≡ body_reply g s
       go true u = sym (ap (body_by s g) (le-ltb g (length s.definitions) (omega (arith, counted, leb-true c.definitions g u))))
       go false u =
           let a = leb-false c.definitions g u in
@@ -104,8 +106,8 @@ module _ (file : List ℕ) (fs : List Field) (s : State) (rs : List Row) (v : St
           ∙ sym (ap (body_by s g) (lt-ltb g (length s.definitions) (omega (arith, counted))))
 
 -- by the question
-module _ (q : Question) (v : Store) (words cards : List ℕ) (c : Counts) (expr levels : List ℕ) (r : Replied) where
-  pub levelled : (m : ℕ) (a : Asked) → q ≡ Level m → Asks v words c m levels expr a → level_in r ≡ outcome_of a
+module _ (q : Question) (v : Store) (words cards : List ℕ) (c : Counts) (expr levels : List ℕ) (r : Result Answer Refusal) where
+  pub levelled : (m : ℕ) (a : Result ℕ Refusal) → q ≡ Level m → Asks v words c m levels expr a → level_in r ≡ outcome_of a
       → Replies q v words cards c expr levels r
   levelled m a e x f =
       subst⁻¹ (λ (y : Question). Replies y v words cards c expr levels r) e

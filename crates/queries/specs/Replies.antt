@@ -1,19 +1,21 @@
 -- What the reply to a question is, by the store that shows the state of an accepted file.
-use Rattle.std.specs.Prelude.{Bool, cond, true, ◌&&◌, List, ◌≡◌, ℕ, zero, suc, ◌+◌, ◌*◌, ◌≤◌, eqb, leb, get_or}
-use Rattle.limits.specs.Limits.{card_bytes, max_definitions, max_modules}
+use Rattle.std.specs.Prelude.{Result, Ok, Bool, cond, true, ◌&&◌, List, ◌≡◌, ℕ, zero, suc, ◌+◌, ◌*◌, eqb, leb, get_or}
+use Rattle.limits.specs.Limits.{card_bytes}
 use Rattle.rules.specs.Field.{Field}
 use Rattle.rules.specs.Run.{memory_after, result}
 use Rattle.rules.specs.State.{State}
 use Rattle.worlds.specs.Rows.{Row}
-use Rattle.store.specs.Store.{Store, count_at, first_at}
+use Rattle.store.specs.Store.{count_at, first_at}
+use Rattle.store.specs.declared.Store.{Store}
+use Rattle.store.specs.declared.Facts.{Facts}
 use Rattle.context.specs.declared.Counts.{Counts}
 use Rattle.judge_plain.specs.declared.Phase.{Phase}
 use Rattle.standing.specs.Standing.{Standing}
-use Rattle.checker.specs.declared.Reply as judged
-use Rattle.checker.specs.declared.Reply.{Reply}
 use Rattle.queries.specs.declared.Question.{Question}
-use Rattle.queries.specs.declared.Replied.TheVariants.{Compared, Located, Refused}
-use Rattle.queries.specs.declared.Replied.{Replied}
+use Rattle.queries.specs.declared.Answer.TheVariants.{Compared, Located}
+use Rattle.queries.specs.declared.Answer.{Answer}
+use Rattle.refusals.specs.Outcomes.{refused}
+use Rattle.refusals.specs.declared.Refusal.{Refusal}
 use Rattle.queries.specs.Question.{outcome_in, reply_of}
 
 -- k bytes from the i-th after p are those from the i-th after q
@@ -26,24 +28,14 @@ abbrev pub like_at : List ℕ → ℕ → ℕ → Bool
 like_at cards g h = same_from cards (card_bytes * g) (card_bytes * h) 0 card_bytes
 
 -- of n definitions, 17 being "no such module or definition"
-unfoldable pub alike_at : List ℕ → ℕ → ℕ → ℕ → Replied
-alike_at cards n g h = cond (leb n g) (Refused 17 0) (cond (leb n h) (Refused 17 0) (Compared (like_at cards g h)))
+unfoldable pub alike_at : List ℕ → ℕ → ℕ → ℕ → Result Answer Refusal
+alike_at cards n g h = cond (leb n g) (refused 17 0) (cond (leb n h) (refused 17 0) (Ok (Compared (like_at cards g h))))
 
-unfoldable pub body_at : List ℕ → ℕ → ℕ → Replied
-body_at facts n g = cond (leb n g) (Refused 17 0) (Located (first_at facts g) (count_at facts g))
+unfoldable pub body_at : List Facts → ℕ → ℕ → Result Answer Refusal
+body_at facts n g = cond (leb n g) (refused 17 0) (Ok (Located (first_at facts g) (count_at facts g)))
 
 -- The reply to a question is the rules', if the store and the counts show a state that some fields lead to, and the cards are filled.
-pub record Replies (q : Question) (v : Store) (words cards : List ℕ) (c : Counts) (expr levels : List ℕ) (r : Replied) : Type 0 where
+pub record Replies (q : Question) (v : Store) (words cards : List ℕ) (c : Counts) (expr levels : List ℕ) (r : Result Answer Refusal) : Type 0 where
   pub reply : (file : List ℕ) (fs : List Field) (s : State) (rs : List Row) (p : Phase) (refs before : List ℕ)
       → Standing file fs s rs v c p refs words → cards ≡ memory_after (result s) before
       → outcome_in q r ≡ reply_of q expr levels s
-
--- after the file was judged: its refusal stays
-abbrev pub AfterJudging : Reply → Question → Store → List ℕ → List ℕ → Counts → List ℕ → List ℕ → Replied → Type 0
-AfterJudging (judged.TheVariants.Accepted n) q v words cards c expr levels r = Replies q v words cards c expr levels r
-AfterJudging (judged.TheVariants.Refused k p) q v words cards c expr levels r = r ≡ Refused k p
-
--- the counts of a file that was accepted are within the limits
-abbrev pub Bounded : Reply → Counts → Type 0
-Bounded (judged.TheVariants.Accepted n) c = (c.modules ≤ max_modules) × (c.definitions ≤ max_definitions)
-Bounded (judged.TheVariants.Refused k p) c = Unit {0}

@@ -1,16 +1,15 @@
 // The reply to a question about a file that was accepted, from the store that shows its state.
 ghost use Rattle.std.specs.Prelude.{◌≡◌, ◌≤◌, ◌<◌, length};
 ghost use Rattle.limits.specs.Limits.{card_memory_bytes, max_definitions, max_modules};
-ghost use Rattle.asking.specs.Reply.{outcome_of};
 ghost use Rattle.queries.specs.Question.{level_in};
+ghost use Rattle.refusals.specs.Outcomes.{outcome_of};
 ghost use Rattle.queries.specs.Replies.{Replies, alike_at, body_at, like_at};
-ghost use Rattle.store.specs.Store.{held};
 
-use crate::{Question, Replied};
-use asking::{Asked, level_reply};
+use crate::{Answer, Question};
+use asking::level_reply;
 use context::Counts;
 use limits::Limits;
-use store::reading::fact_at;
+use refusals::Refusal;
 use store::{Lent, Store};
 
 // "when parameter counts and cards agree": whether the cards of two definitions are the same, byte by byte of the filled card memory; byte 0 is
@@ -19,30 +18,34 @@ fn same_cards(cards: &[u8], a: usize, b: usize) -> bool
     requires { (a < max_definitions) × (b < max_definitions) × (card_memory_bytes ≤ length cards.now) }
     ensures { result ≡ like_at cards.now a b }
 {
-    let mut i: usize = 0;
-    while i < Limits::CARD_BYTES {
+    for i in 0..Limits::CARD_BYTES {
         if cards[Limits::CARD_BYTES * a + i] != cards[Limits::CARD_BYTES * b + i] {
             return false;
         }
-        i += 1;
     }
     true
 }
 
 // Whether two of n definitions are alike, or cause 17, "no such module or definition".
-fn alike_reply(cards: &[u8], n: usize, a: u32, b: u32) -> Replied
+fn alike_reply(cards: &[u8], n: usize, a: u32, b: u32) -> Result<Answer, Refusal>
     requires { (n ≤ max_definitions) × (card_memory_bytes ≤ length cards.now) }
     ensures { result ≡ alike_at cards.now n a b }
 {
     let g = a as usize;
     let h = b as usize;
     if n <= g {
-        return Replied::Refused(17, 0);
+        return Err(Refusal {
+            cause: 17,
+            place: 0,
+        });
     }
     if n <= h {
-        return Replied::Refused(17, 0);
+        return Err(Refusal {
+            cause: 17,
+            place: 0,
+        });
     }
-    Replied::Compared(same_cards(cards, g, h))
+    Ok(Answer::Compared(same_cards(cards, g, h)))
 }
 
 fn wide(x: u16) -> usize
@@ -52,26 +55,26 @@ fn wide(x: u16) -> usize
 }
 
 // Where the body of one of n definitions stands: of a brought one the store keeps where the original's does.
-fn body_reply(store: &[u16; Store::LENGTH], n: usize, d: u32) -> Replied
+fn body_reply(store: &Store, n: usize, d: u32) -> Result<Answer, Refusal>
     requires { n ≤ max_definitions }
-    ensures { result ≡ body_at (held store.now).facts n d }
+    ensures { result ≡ body_at store.now.facts n d }
 {
     let g = d as usize;
     if n <= g {
-        return Replied::Refused(17, 0);
+        return Err(Refusal {
+            cause: 17,
+            place: 0,
+        });
     }
-    let start = wide(fact_at(store, Limits::COLUMNS * g + 1));
-    let size = wide(fact_at(store, Limits::COLUMNS * g + 2));
-    Replied::Located(start, size)
+    let start = wide(store.first_at(g));
+    let size = wide(store.count_at(g));
+    Ok(Answer::Located(start, size))
 }
 
-fn of_level(reply: Asked) -> Replied
+fn of_level(reply: Result<u8, Refusal>) -> Result<Answer, Refusal>
     ensures { level_in result ≡ outcome_of reply }
 {
-    match reply {
-        Asked::Level(l) => Replied::Levelled(l),
-        Asked::Refused(c, p) => Replied::Refused(c, p),
-    }
+    Ok(Answer::Levelled(reply?))
 }
 
 // The reply to a question. The store is that of the file that was checked, which has c of each kind; the card memory is filled.
@@ -79,13 +82,13 @@ pub fn reply_to(
     question: Question,
     expr: &[u8],
     levels: &[u8],
-    store: &[u16; Store::LENGTH],
+    store: &Store,
     words: &[u64; Lent::WORDS],
     cards: &[u8],
     c: Counts,
-) -> Replied
+) -> Result<Answer, Refusal>
     requires { (c.modules ≤ max_modules) × (c.definitions ≤ max_definitions) × (card_memory_bytes ≤ length cards.now) }
-    ensures { Replies question (held store.now) words.now cards.now c expr.now levels.now result }
+    ensures { Replies question store.now words.now cards.now c expr.now levels.now result }
 {
     match question {
         Question::Level(m) => of_level(level_reply(expr, levels, m, store, words, c)),

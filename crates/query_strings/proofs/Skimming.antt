@@ -3,10 +3,11 @@ use mathlib.Core.Bool.{Bool, false, true, ◌||◌}
 use mathlib.Core.List.{List}
 use mathlib.Core.Path.{◌∙◌, ◌≡◌, ap, refl}
 use Prim.Native.Nat.{ℕ, ◌+◌, ◌-◌, ◌<◌, ◌≤◌}
+use Rattle.std.specs.Prelude.{Option, None, Some}
 use Rattle.limits.specs.Limits.{max_arity}
-use Rattle.tokens.specs.Expr.{expr_at, several}
+use Rattle.tokens.specs.Expr.{Founds, expr_at, several}
 use Rattle.tokens.specs.Fold.{Algebra, under_of}
-use Rattle.tokens.specs.Token.{arguments_of, is_token, token_at, width_of}
+use Rattle.tokens.specs.Token.{arguments_of, token_at, width_of}
 use Rattle.tokens.specs.declared.Token.{Token}
 use Rattle.tokens.proofs.Folding.{Scoped, scoped_at}
 use Rattle.tokens.proofs.Reading.{several-more}
@@ -15,11 +16,12 @@ use Rattle.resolve.specs.Look.{look_in}
 use Rattle.resolve.specs.Walk.{inside, miscounted_at, miscounted_in, unknown_at, unknown_in}
 use Rattle.resolve.specs.declared.Look.{Look}
 use Rattle.resolve.specs.declared.Looked.{Looked}
-use Rattle.skimming.specs.Skims.{Skims, SkimsAll}
-use Rattle.skimming.proofs.Keeping.{kept-count, kept-limit, kept-lost, kept-nothing, kept-token, kepts-lost, kepts-more, kepts-none}
+use Rattle.skimming.specs.Skims.{AllSkimmed, Skimmed, Skims, SkimsAll}
+use Rattle.skimming.proofs.Keeping.{kept-count, kept-limit, kept-lost, kept-nothing, kept-token, kepts-later, kepts-lost, kepts-more, kepts-none}
 use Rattle.query_strings.specs.Reads.{Joins, Over}
+use Rattle.store.specs.declared.Facts.{Facts}
 
-module _ (names facts cs : List ℕ) (p : ℕ) where
+module _ (names : List ℕ) (facts : List Facts) (cs : List ℕ) (p : ℕ) where
   abbrev U : Algebra ℕ Bool Bool
   U = searching (unknown_in names facts cs p)
 
@@ -27,72 +29,86 @@ module _ (names facts cs : List ℕ) (p : ℕ) where
   M = searching (miscounted_in names facts cs)
 
   -- an expression
-  module _ (e n : ℕ) (s : List ℕ) (at : ℕ) (b : Bool) (x : Looked) where
-    pub skims-limit : n ≡ 0 → b ≡ false → Skims names facts cs p e (expr_at n s at) b x
-    skims-limit z h = record {
-      unknown = kept-limit U n s at e b x.unknown x.next z h;
-      miscounted = kept-limit M n s at e b x.miscounted x.next z h;
+  module _ (e n : ℕ) (s : List ℕ) (at : ℕ) where
+    pub skims-limit : n ≡ 0 → Skimmed names facts cs p e (expr_at n s at) None
+    skims-limit z = λ x. record {
+      unknown = kept-limit U n s at e false x.unknown x.next z refl;
+      miscounted = kept-limit M n s at e false x.miscounted x.next z refl;
     }
 
-    module _ (t : Token) (i : Bool) (et : t ≡ token_at s at) (ei : i ≡ is_token t) where
-      pub skims-nothing : i ≡ false → b ≡ false → Skims names facts cs p e (expr_at n s at) b x
-      skims-nothing z h = record {
-        unknown = kept-nothing U n s at e b x.unknown x.next t i et ei z h;
-        miscounted = kept-nothing M n s at e b x.miscounted x.next t i et ei z h;
+    module _ (o : Option Token) (et : o ≡ token_at s at) where
+      pub skims-nothing : o ≡ None → Skimmed names facts cs p e (expr_at n s at) None
+      skims-nothing z = λ x. record {
+        unknown = kept-nothing U n s at e false x.unknown x.next o et z refl;
+        miscounted = kept-nothing M n s at e false x.miscounted x.next o et z refl;
       }
 
-      module _ (there : i ≡ true) (deep : n ≡ 0 → ⊥) (k : ℕ) (ek : k ≡ arguments_of t) where
-        pub skims-count : max_arity < k → b ≡ false → Skims names facts cs p e (expr_at n s at) b x
-        skims-count z h = record {
-          unknown = kept-count U n s at e b x.unknown x.next t i et ei there deep k ek z h;
-          miscounted = kept-count M n s at e b x.miscounted x.next t i et ei there deep k ek z h;
+      module _ (t : Token) (there : o ≡ Some t) (deep : n ≡ 0 → ⊥) (k : ℕ) (ek : k ≡ arguments_of t) where
+        pub skims-count : max_arity < k → Skimmed names facts cs p e (expr_at n s at) None
+        skims-count z = λ x. record {
+          unknown = kept-count U n s at e false x.unknown x.next o et t there deep k ek z refl;
+          miscounted = kept-count M n s at e false x.miscounted x.next o et t there deep k ek z refl;
         }
 
-        pub skims-token : (w : ℕ) → w ≡ width_of t → (last : ℕ) → last ≡ inside t e → (c : Bool) (a : Looked)
-            → SkimsAll names facts cs p e last (several (expr_at (n - 1) s) (at + w) k) c a → k ≤ max_arity → (l : Look) → l ≡ look_in names facts cs t
-            → Over t l p e a x → b ≡ c → Skims names facts cs p e (expr_at n s at) b x
-        skims-token w ew last el c a all few l hl o eb = go c refl
-          where
-            go : (d : Bool) → c ≡ d → Skims names facts cs p e (expr_at n s at) b x
-            go true z = record {
-              unknown = kept-token U n s at e b x.unknown x.next t i et ei there deep k ek w ew last el c a.unknown a.next all.unknown few z (eb ∙ z)
-                  o.next (o.unknown ∙ ap (λ (y : Look). unknown_at p e t y || a.unknown) hl);
-              miscounted = kept-token M n s at e b x.miscounted x.next t i et ei there deep k ek w ew last el c a.miscounted a.next all.miscounted few z (eb ∙ z)
-                  o.next (o.miscounted ∙ ap (λ (y : Look). miscounted_at t y || a.miscounted) hl);
-            }
-            go false z = record {
-              unknown = kept-lost U n s at e b x.unknown x.next t i et ei there deep k ek w ew last el c a.unknown a.next all.unknown z (eb ∙ z);
-              miscounted = kept-lost M n s at e b x.miscounted x.next t i et ei there deep k ek w ew last el c a.miscounted a.next all.miscounted z (eb ∙ z);
-            }
+        module _ (w : ℕ) (ew : w ≡ width_of t) (last : ℕ) (el : last ≡ inside t e) where
+          abbrev args : Founds
+          args = several (expr_at (n - 1) s) (at + w) k
+
+          pub skims-lost : AllSkimmed names facts cs p e last args None → Skimmed names facts cs p e (expr_at n s at) None
+          skims-lost all = λ x. record {
+            unknown = kept-lost U n s at e false x.unknown x.next o et t there deep k ek w ew last el false x.unknown x.next (all x).unknown refl refl;
+            miscounted = kept-lost M n s at e false x.miscounted x.next o et t there deep k ek w ew last el false x.miscounted x.next (all x).miscounted refl refl;
+          }
+
+          pub skims-token : (a x : Looked) → SkimsAll names facts cs p e last args true a → k ≤ max_arity → (l : Option Look) → l ≡ look_in names facts cs t
+              → Over t l p e a x → Skims names facts cs p e (expr_at n s at) true x
+          skims-token a x all few l hl v = record {
+            unknown = kept-token U n s at e true x.unknown x.next o et t there deep k ek w ew last el true a.unknown a.next all.unknown few refl refl
+                v.next (v.unknown ∙ ap (λ (y : Option Look). unknown_at p e t y || a.unknown) hl);
+            miscounted = kept-token M n s at e true x.miscounted x.next o et t there deep k ek w ew last el true a.miscounted a.next all.miscounted few refl refl
+                v.next (v.miscounted ∙ ap (λ (y : Option Look). miscounted_at t y || a.miscounted) hl);
+          }
 
   -- an argument list
-  module _ (outer last n : ℕ) (s : List ℕ) (at k : ℕ) (b : Bool) (x : Looked) where
-    pub all_none : k ≡ 0 → b ≡ true → (x.next ≡ at) × (x.unknown ≡ false) × (x.miscounted ≡ false)
-        → SkimsAll names facts cs p outer last (several (expr_at n s) at k) b x
-    all_none z h (hn, hu, hm) = record {
-      unknown = rw (z, h, hu, hn) (kepts-none U outer last (expr_at n s) at);
-      miscounted = rw (z, h, hm, hn) (kepts-none M outer last (expr_at n s) at);
+  module _ (outer last n : ℕ) (s : List ℕ) (at k : ℕ) where
+    pub all_none : (x : Looked) → k ≡ 0 → (x.next ≡ at) × (x.unknown ≡ false) × (x.miscounted ≡ false)
+        → SkimsAll names facts cs p outer last (several (expr_at n s) at k) true x
+    all_none x z (hn, hu, hm) = record {
+      unknown = rw (z, hu, hn) (kepts-none U outer last (expr_at n s) at);
+      miscounted = rw (z, hm, hn) (kepts-none M outer last (expr_at n s) at);
     }
 
-    module _ (some : k ≡ 0 → ⊥) (e : ℕ) (c : Bool) (a : Looked) (first : Skims names facts cs p e (expr_at n s at) c a) where
-      pub all-lost : c ≡ false → b ≡ false → SkimsAll names facts cs p outer last (several (expr_at n s) at k) b x
-      all-lost z h =
-          rw (several-more (expr_at n s) at k some, h)
+    module _ (some : k ≡ 0 → ⊥) (e : ℕ) where
+      abbrev rest : ℕ → Founds
+      rest q = several (expr_at n s) q (k - 1)
+
+      pub all-lost : Skimmed names facts cs p e (expr_at n s at) None → AllSkimmed names facts cs p outer last (several (expr_at n s) at k) None
+      all-lost first = λ x.
+          rw (several-more (expr_at n s) at k some)
           record {
-            unknown = kepts-lost U outer last (expr_at n s at) (λ q. several (expr_at n s) q (k - 1)) e a.unknown a.next x.unknown x.next (rw z at first.unknown);
-            miscounted = kepts-lost M outer last (expr_at n s at) (λ q. several (expr_at n s) q (k - 1)) e a.miscounted a.next x.miscounted x.next (rw z at first.miscounted);
+            unknown = kepts-lost U outer last (expr_at n s at) rest e x.unknown x.next x.unknown x.next (first x).unknown;
+            miscounted = kepts-lost M outer last (expr_at n s at) rest e x.miscounted x.next x.miscounted x.next (first x).miscounted;
           }
 
-      pub all_more : e ≡ under_of k outer last → c ≡ true → (d : Bool) (g : Looked) → SkimsAll names facts cs p outer last (several (expr_at n s) a.next (k - 1)) d g
-          → b ≡ d → Joins a g x → SkimsAll names facts cs p outer last (several (expr_at n s) at k) b x
-      all_more ee z d g h eb j =
-          rw (several-more (expr_at n s) at k some, eb, j.next)
-          record {
-            unknown = kepts-more U outer last (expr_at n s at) (λ q. several (expr_at n s) q (k - 1)) e a.unknown a.next d x.unknown g.unknown g.next
-                (rw z at first.unknown) scoped h.unknown j.unknown;
-            miscounted = kepts-more M outer last (expr_at n s at) (λ q. several (expr_at n s) q (k - 1)) e a.miscounted a.next d x.miscounted g.miscounted g.next
-                (rw z at first.miscounted) scoped h.miscounted j.miscounted;
-          }
-        where
-          scoped : (q : ℕ) → Scoped outer last e (several (expr_at n s) q (k - 1))
-          scoped q = rw ee (scoped_at outer last (expr_at n s) k q some)
+      module _ (ee : e ≡ under_of k outer last) (a : Looked) (first : Skims names facts cs p e (expr_at n s at) true a) where
+        scoped : (q : ℕ) → Scoped outer last e (rest q)
+        scoped q = rw ee (scoped_at outer last (expr_at n s) k q some)
+
+        pub all-later : AllSkimmed names facts cs p outer last (rest a.next) None → AllSkimmed names facts cs p outer last (several (expr_at n s) at k) None
+        all-later others = λ x.
+            rw (several-more (expr_at n s) at k some)
+            record {
+              unknown = kepts-later U outer last (expr_at n s at) rest e a.unknown a.next x.unknown x.unknown x.next x.next first.unknown scoped (others x).unknown;
+              miscounted = kepts-later M outer last (expr_at n s at) rest e a.miscounted a.next x.miscounted x.miscounted x.next x.next first.miscounted scoped
+                  (others x).miscounted;
+            }
+
+        pub all_more : (g x : Looked) → SkimsAll names facts cs p outer last (rest a.next) true g → Joins a g x
+            → SkimsAll names facts cs p outer last (several (expr_at n s) at k) true x
+        all_more g x h j =
+            rw (several-more (expr_at n s) at k some, j.next)
+            record {
+              unknown = kepts-more U outer last (expr_at n s at) rest e a.unknown a.next true x.unknown g.unknown g.next first.unknown scoped h.unknown j.unknown;
+              miscounted = kepts-more M outer last (expr_at n s at) rest e a.miscounted a.next true x.miscounted g.miscounted g.next first.miscounted scoped
+                  h.miscounted j.miscounted;
+            }

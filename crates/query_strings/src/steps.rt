@@ -1,6 +1,6 @@
 // What the walks do at a token and at an argument.
-ghost use Rattle.std.specs.Prelude.{◌≡◌, true, ◌+◌};
-ghost use Rattle.tokens.specs.Token.{is_token, token_at, width_of};
+ghost use Rattle.std.specs.Prelude.{◌≡◌, Some, ◌+◌};
+ghost use Rattle.tokens.specs.Token.{token_at, width_of};
 ghost use Rattle.query_strings.specs.Reads.{Joins, Over};
 
 use resolve::steps::{both, with_args};
@@ -9,14 +9,14 @@ use tokens::Token;
 
 // The position after a token.
 pub fn after_token(s: &[u8], at: usize, t: Token) -> usize
-    requires { (t ≡ token_at s.now at) × (is_token t ≡ true) }
+    requires { token_at s.now at ≡ Some t }
     ensures { result ≡ at + width_of t }
 {
     at + tokens::width(t)
 }
 
 // What a token and its arguments come to.
-pub fn over(t: Token, l: Look, params: usize, bound: usize, a: Looked) -> Looked
+pub fn over(t: Token, l: Option<Look>, params: usize, bound: usize, a: Looked) -> Looked
     ensures { Over t l params bound a result }
 {
     let ask = Ask {

@@ -2,20 +2,16 @@
 #![tactic(auto)]
 
 ghost use Rattle.std.specs.Prelude.{cond, ◌≡◌, ◌+◌, ◌*◌, ◌≤◌};
-ghost use Rattle.limits.specs.Limits.{expansion_bytes, file_bytes, max_definitions};
-ghost use Rattle.asking.specs.Reply as levels;
-ghost use Rattle.checker.specs.Reply.{outcome_of};
-ghost use Rattle.expanding.specs.Reply as expansions;
-ghost use Rattle.queries.specs.Reply.{alike_outcome, body_outcome};
+ghost use Rattle.limits.specs.Limits.{expansion_bytes, file_bytes};
+ghost use Rattle.refusals.specs.Outcomes.{outcome_of};
 ghost use Rattle.demands.specs.Archive.{alike_leaves, alike_number, body_leaves, body_number, check_leaves, check_number, expand_leaves, expand_number, expand_writes, level_leaves, level_number};
 ghost use Rattle.demands.specs.Packed.{packed, packed_span, packed_truth};
-ghost use Rattle.rafterclary.specs.Packable.{FewBytes, FewDefinitions, InFile, Packable};
+ghost use Rattle.rafterclary.specs.Packable.{FewBytes, InFile, Packable};
 
-use asking::Asked;
-use checker::{Reply, check};
-use expanding::Expanded;
+use checker::check;
 use queries::expansion::expand;
-use queries::{AlikeReply, BodyReply, alike, body, level};
+use queries::{alike, body, level};
+use refusals::Refusal;
 
 // As `unpacking` takes them apart.
 #[derive(Drop)]
@@ -32,8 +28,8 @@ impl Bits {
     const WIDE_PLACES: u64 = 65536;
 }
 
-fn pack_result(n: usize) -> u32
-    requires { n ≤ max_definitions }
+fn pack_number(n: usize) -> u32
+    requires { n ≤ expansion_bytes }
     ensures { result ≡ n }
 {
     n as u32
@@ -52,75 +48,61 @@ fn pack_span(start: usize, size: usize) -> u64
     Bits::WIDE_PLACES * (start as u64) + size as u64
 }
 
-fn pack_refusal(c: u8, p: usize) -> u32
-    requires { p ≤ file_bytes }
-    ensures { result ≡ 2147483648 + 65536 * c + p }
+fn pack_refusal(r: Refusal) -> u32
+    requires { r.place ≤ file_bytes }
+    ensures { result ≡ 2147483648 + 65536 * r.cause + r.place }
 {
-    Bits::REFUSAL + Bits::PLACES * (c as u32) + p as u32
+    Bits::REFUSAL + Bits::PLACES * (r.cause as u32) + r.place as u32
 }
 
-fn pack_wide_refusal(c: u8, p: usize) -> u64
-    requires { p ≤ file_bytes }
-    ensures { result ≡ 9223372036854775808 + 65536 * c + p }
+fn pack_wide_refusal(r: Refusal) -> u64
+    requires { r.place ≤ file_bytes }
+    ensures { result ≡ 9223372036854775808 + 65536 * r.cause + r.place }
 {
-    Bits::WIDE_REFUSAL + Bits::WIDE_PLACES * (c as u64) + p as u64
+    Bits::WIDE_REFUSAL + Bits::WIDE_PLACES * (r.cause as u64) + r.place as u64
 }
 
-// Each operation's reply as one number.
-fn pack(reply: Reply) -> u32
-    requires { Packable FewDefinitions (outcome_of reply) }
+// Each operation's reply as one number: of a check and of an expansion,
+fn pack(reply: Result<usize, Refusal>) -> u32
+    requires { Packable FewBytes (outcome_of reply) }
     ensures { result ≡ packed (outcome_of reply) }
 {
     match reply {
-        Reply::Accepted(n) => pack_result(n),
-        Reply::Refused(c, p) => pack_refusal(c, p),
+        Ok(n) => pack_number(n),
+        Err(r) => pack_refusal(r),
     }
 }
 
-fn pack_level(reply: Asked) -> u32
-    requires { Packable (λ l. Unit {0}) (levels.outcome_of reply) }
-    ensures { result ≡ packed (levels.outcome_of reply) }
+// of a level query,
+fn pack_level(reply: Result<u8, Refusal>) -> u32
+    requires { Packable (λ l. Unit {0}) (outcome_of reply) }
+    ensures { result ≡ packed (outcome_of reply) }
 {
     match reply {
-        Asked::Level(l) => l as u32,
-        Asked::Refused(c, p) => pack_refusal(c, p),
+        Ok(l) => l as u32,
+        Err(r) => pack_refusal(r),
     }
 }
 
-fn pack_alike(reply: AlikeReply) -> u32
-    requires { Packable (λ b. Unit {0}) (alike_outcome reply) }
-    ensures { result ≡ packed_truth (alike_outcome reply) }
+// of whether two definitions are alike,
+fn pack_alike(reply: Result<bool, Refusal>) -> u32
+    requires { Packable (λ b. Unit {0}) (outcome_of reply) }
+    ensures { result ≡ packed_truth (outcome_of reply) }
 {
     match reply {
-        AlikeReply::Alike(b) => pack_truth(b),
-        AlikeReply::Refused(c, p) => pack_refusal(c, p),
+        Ok(b) => pack_truth(b),
+        Err(r) => pack_refusal(r),
     }
 }
 
-fn pack_body(reply: BodyReply) -> u64
-    requires { Packable InFile (body_outcome reply) }
-    ensures { result ≡ packed_span (body_outcome reply) }
+// and of where a body stands.
+fn pack_body(reply: Result<(usize, usize), Refusal>) -> u64
+    requires { Packable InFile (outcome_of reply) }
+    ensures { result ≡ packed_span (outcome_of reply) }
 {
     match reply {
-        BodyReply::Body(start, size) => pack_span(start, size),
-        BodyReply::Refused(c, p) => pack_wide_refusal(c, p),
-    }
-}
-
-fn pack_length(n: usize) -> u32
-    requires { n ≤ expansion_bytes }
-    ensures { result ≡ n }
-{
-    n as u32
-}
-
-fn pack_expansion(reply: Expanded) -> u32
-    requires { Packable FewBytes (expansions.outcome_of reply) }
-    ensures { result ≡ packed (expansions.outcome_of reply) }
-{
-    match reply {
-        Expanded::Length(n) => pack_length(n),
-        Expanded::Refused(c, p) => pack_refusal(c, p),
+        Ok((start, size)) => pack_span(start, size),
+        Err(r) => pack_wide_refusal(r),
     }
 }
 
@@ -179,5 +161,5 @@ pub extern "C" fn rafterclary_expand(
     ensures { (result ≡ expand_number file.now cards.old «module» params expr.now out.old) × (cards.new ≡ expand_leaves file.now cards.old «module» params expr.now out.old) × (out.new ≡ expand_writes file.now cards.old «module» params expr.now out.old) }
 {
     let reply = expand(file, cards, module, expr, params, out);
-    pack_expansion(reply)
+    pack(reply)
 }

@@ -1,9 +1,9 @@
 -- Where a run begins.
-use mathlib.Core.List.{List, [], ◌++◌, ◌∷◌, append-nil}
-use mathlib.Core.Path.{◌∙◌, ◌≡◌, ap, ap₂, refl, subst, sym}
+use mathlib.Core.List.{List, [], ◌∷◌, append-nil}
+use mathlib.Core.Path.{◌∙◌, ◌≡◌, ap, ap₂, refl, sym}
 use native.Mathlib.Omega.{arith}
-use Prim.Native.Nat.{ℕ, ◌+◌, ◌-◌, min}
-use lib.ListN.{get_or, length}
+use Prim.Native.Nat.{ℕ}
+use lib.ListN.{length}
 use Rattle.symbols.specs.Spell.{spell}
 use Rattle.symbols.specs.Symbol.{Symbol, begin, call, code, end, name, number, par, var}
 use Rattle.cells.specs.Table.{tally}
@@ -11,7 +11,7 @@ use Rattle.cells.specs.declared.Layout.{Layout}
 use Rattle.rewriting.specs.Rewritten.{Task}
 use Rattle.shifting.proofs.Calls.{whole_part, whole-starts}
 use Rattle.shifting.specs.Part.{Part}
-use Rattle.shifting.specs.Shift.{Below, noted, opened_by, shift, shift_one}
+use Rattle.shifting.specs.Shift.{noted, opened_by, shift, shift_one}
 use Rattle.streaming.specs.Course.{InString}
 use Rattle.streaming.specs.Step.{Read}
 use Rattle.streaming.specs.declared.Now.{Now}

@@ -1,15 +1,15 @@
 -- One round after another: what is kept in each is kept in all.
-use mathlib.Core.Bool.{false, true}
+use mathlib.Core.Bool.{false}
 use mathlib.Core.List.{List}
 use mathlib.Core.Path.{◌∙◌, ◌≡◌, refl, sym}
 use Prim.Native.Nat.{ℕ}
 use lib.Dec.{eqb}
-use Rattle.theory.proofs.Lists.{never}
 use Rattle.theory.specs.Lists.{any}
 use Rattle.theory.specs.Term.{Term}
 use Rattle.symbols.specs.Spell.{spell}
 use Rattle.symbols.specs.Symbol.{Spelt, calls}
-use Rattle.strings.specs.declared.Filled.{Filled}
+use Rattle.std.specs.Prelude.{Option, Some}
+use Rattle.std.proofs.lemmas.Option.{none-some, same_Some}
 use Rattle.unfolding.proofs.SameLaws.{same-trans}
 use Rattle.rewriting.specs.Going.{Kept}
 use Rattle.rewriting.specs.Rewritten.{Posed, Replaced, Task, Templated}
@@ -50,7 +50,7 @@ kept-through x k m =
       shape = m.shape ∙ k.shape;
     }
 
-pub replaced-through : (n : ℕ) (x : Task) (k : Kept x) (a : List ℕ) (r : Filled) → Replaced n (again x k.term) a r → Replaced n x a r
+pub replaced-through : (n : ℕ) (x : Task) (k : Kept x) (a : List ℕ) (r : Option ℕ) → Replaced n (again x k.term) a r → Replaced n x a r
 replaced-through n x k a r m =
     record {
       term = m.term;
@@ -64,9 +64,9 @@ replaced-through n x k a r m =
     }
 
 -- no call is left
-pub replaced-all : (n : ℕ) (x : Task) (k : Kept x) (a : List ℕ) (r : Filled) → Spelt a 0 (spell x.sense.shape k.term) r.len
-    → any (calls (eqb n)) (spell x.sense.shape k.term) ≡ false → r.fits ≡ true → Replaced n x a r
-replaced-all n x k a r s c f =
+pub replaced-all : (n : ℕ) (x : Task) (k : Kept x) (a : List ℕ) (size : ℕ) → Spelt a 0 (spell x.sense.shape k.term) size
+    → any (calls (eqb n)) (spell x.sense.shape k.term) ≡ false → Replaced n x a (Some size)
+replaced-all n x k a size s c =
     record {
       term = k.term;
       same = k.same;
@@ -74,6 +74,6 @@ replaced-all n x k a r s c f =
       others = k.others;
       near = k.near;
       shape = k.shape;
-      yes = λ _. (s, c);
-      no = λ g. never (sym f ∙ g);
+      yes = λ m e. rw (← same_Some size m e) (s, c);
+      no = λ e. absurd (none-some size (sym e));
     }

@@ -5,7 +5,6 @@
 #![tactic(auto)]
 
 ghost use Rattle.std.specs.Prelude.{◌≡◌, ◌^◌, ◌<◌, ◌≤◌, get_or, length, take};
-ghost use Rattle.rows.specs.Rows.{arity_column};
 ghost use Rattle.rewriting.specs.Rewritten.{Rewritten};
 ghost use Rattle.replacing.specs.Round.{NotedRan, RanOn, Rounded, StepsIn, TurnedTo};
 ghost use Rattle.streaming.specs.Step.{Sane};
@@ -14,18 +13,11 @@ ghost use Rattle.cells.specs.Table.{Sized, row_bytes, string_bytes};
 
 use call_table::{end_calls, note_calls};
 use cells::{Layout, layout_of};
+use rows::ArityColumn;
+use std::ops::ControlFlow;
 use streaming::here::step_here;
 use streaming::inside::step_inside;
-use streaming::{Now, Stepped};
-use strings::Filled;
-
-// What a run comes to; where it is not `told`, nothing is known.
-#[derive(Clone, Copy)]
-pub struct RunResult {
-    pub told: bool,
-    pub fits: bool,
-    pub len: usize,
-}
+use streaming::{Fault, Now, Stepped};
 
 #[derive(Drop)]
 pub struct Bounds;
@@ -53,7 +45,7 @@ fn step(
     env: &mut [u16],
     out: &mut [u8],
     s: Now,
-) -> Stepped
+) -> Result<Stepped, Fault>
     requires { Sane env.old out.old s × Sized l (length table.old) × (known ≤ l.room) × (tlen ≤ 1024) }
     ensures { StepsIn a.now template.now tlen n l known table.old env.old out.old s table.new env.new out.new result }
 {
@@ -63,7 +55,7 @@ fn step(
     step_here(a, n, table, l, known, env, out, s)
 }
 
-// The string with the calls that the table holds replaced, written to `out`.
+// The string with the calls that the table holds replaced, written to `out`: how many bytes it takes.
 pub fn run(
     a: &[u8],
     n: u16,
@@ -74,7 +66,7 @@ pub fn run(
     known: usize,
     env: &mut [u16],
     out: &mut [u8],
-) -> RunResult
+) -> Result<usize, Fault>
     requires { (length a.now ≤ string_bytes) × Sized l (length table.old) × (known ≤ l.room) × (tlen ≤ 1024) }
     ensures { RanOn a.now template.now tlen n l known table.old out.old out.new result }
 {
@@ -89,234 +81,154 @@ pub fn run(
         b: 0,
         d: 0,
     };
-    let mut turns: usize = 0;
-    while turns < Bounds::STEPS {
-        let r = step(a, n, template, tlen, table, l, known, env, out, s);
-        match r {
+    for _turns in 0..Bounds::STEPS {
+        match step(a, n, template, tlen, table, l, known, env, out, s)? {
             Stepped::On(next) => s = next,
-            Stepped::Finished(len) => {
-                return RunResult {
-                    told: true,
-                    fits: true,
-                    len,
-                }
-            }
-            Stepped::Short => {
-                return RunResult {
-                    told: true,
-                    fits: false,
-                    len: 0,
-                }
-            }
-            Stepped::Lost => {
-                return RunResult {
-                    told: false,
-                    fits: false,
-                    len: 0,
-                }
-            }
+            Stepped::Finished(len) => return Ok(len),
         }
-        turns += 1;
     }
-    RunResult {
-        told: false,
-        fits: false,
-        len: 0,
-    }
+    Err(Fault::Lost)
 }
 
-// The calls that are noted in the table, replaced.
-fn replace_noted(
-    a: &[u8],
-    n: u16,
-    template: &[u8],
-    tlen: usize,
-    shapes: &[u32],
-    arities: &[u8],
-    table: &mut [u8],
-    l: Layout,
-    known: usize,
-    h: u32,
-    env: &mut [u16],
-    out: &mut [u8],
-) -> RunResult
-    requires { (length a.now ≤ string_bytes) × Sized l (length table.old) × (known ≤ l.room) × (arities.now ≡ arity_column) × (h ≡ get_or shapes.now n 0) × (l.places ≡ places_of h) × (tlen ≤ 1024) }
-    ensures { NotedRan a.now template.now tlen shapes.now n l known table.old out.old out.new result }
-{
-    if end_calls(a, shapes, arities, n, table, l, known, h) {
-        return run(a, n, template, tlen, table, l, known, env, out);
-    }
-    RunResult {
-        told: false,
-        fits: false,
-        len: 0,
-    }
-}
-
-// What a round comes to: how many calls of n there were to replace, as many as the table has room for.
+// What each call of n is replaced by: a template of tlen bytes. The shapes of what is called, and the argument counts of built-ins.
 #[derive(Clone, Copy)]
-pub struct Round {
-    pub calls: usize,
-    pub told: bool,
-    pub fits: bool,
-    pub len: usize,
-}
-
-fn one_round(
-    a: &[u8],
+struct Replacement<'a> {
     n: u16,
-    template: &[u8],
+    template: &'a [u8],
     tlen: usize,
-    shapes: &[u32],
-    arities: &[u8],
-    table: &mut [u8],
-    env: &mut [u16],
-    out: &mut [u8],
-) -> Round
-    requires { (length a.now ≤ string_bytes) × (row_bytes ≤ length table.old) × (length table.old < 2 ^ 48) × (arities.now ≡ arity_column) × (tlen ≤ 1024) }
-    ensures { Rounded a.now template.now tlen shapes.now n out.old out.new result }
-{
-    let h = symbols::shape_at(shapes, n as usize);
-    let l = layout_of(h, table.len());
-    let calls = note_calls(a, n, table, l);
-    if calls == 0 {
-        return Round {
-            calls,
-            told: true,
-            fits: true,
-            len: 0,
-        };
-    }
-    let t = replace_noted(
-        a, n, template, tlen, shapes, arities, table, l, calls, h, env, out,
-    );
-    Round {
-        calls,
-        told: t.told,
-        fits: t.fits,
-        len: t.len,
-    }
+    shapes: &'a [u32],
+    arities: &'a ArityColumn,
+    ghost short: { tlen ≤ 1024 },
 }
 
-// One round on the string of the first `size` bytes.
-fn first_round(
-    a: &[u8],
-    size: usize,
-    n: u16,
-    template: &[u8],
-    tlen: usize,
-    shapes: &[u32],
-    arities: &[u8],
-    table: &mut [u8],
-    env: &mut [u16],
-    out: &mut [u8],
-) -> Round
-    requires { (size ≤ length a.now) × (length a.now ≤ string_bytes) × (row_bytes ≤ length table.old) × (length table.old < 2 ^ 48) × (arities.now ≡ arity_column) × (tlen ≤ 1024) }
-    ensures { Rounded (take size a.now) template.now tlen shapes.now n out.old out.new result }
-{
-    one_round(
-        &a[0..size],
-        n,
-        template,
-        tlen,
-        shapes,
-        arities,
-        table,
-        env,
-        out,
-    )
-}
-
-// What a round leaves: a string in which calls may be left, or the answer.
-#[derive(Clone, Copy)]
-pub struct AfterRound {
-    pub more: bool,
-    pub fits: bool,
-    pub len: usize,
-}
-
-// One round on the string of the first `size` bytes. Where it cannot be told, the calls are replaced one after another.
-fn turn(
-    a: &mut [u8],
-    size: usize,
-    n: u16,
-    template: &[u8],
-    tlen: usize,
-    shapes: &[u32],
-    arities: &[u8],
-    table: &mut [u8],
-    env: &mut [u16],
-    filled: &mut [u8],
-) -> AfterRound
-    requires { (size ≤ length a.old) × (length a.old ≡ length filled.old) × (length filled.old ≤ string_bytes) × (row_bytes ≤ length table.old) × (length table.old < 2 ^ 48) × (arities.now ≡ arity_column) × (tlen ≤ 1024) }
-    ensures { TurnedTo a.old size n template.now tlen shapes.now a.new result }
-{
-    let r = first_round(
-        a, size, n, template, tlen, shapes, arities, table, env, filled,
-    );
-    if r.calls == 0 {
-        return AfterRound {
-            more: false,
-            fits: true,
-            len: size,
-        };
-    }
-    if r.told {
-        if r.fits {
-            strings::place(filled, r.len, a, 0);
-            return AfterRound {
-                more: true,
-                fits: true,
-                len: r.len,
-            };
+impl<'a> Replacement<'a> {
+    // The calls that are noted in the table, replaced.
+    fn replace_noted(
+        self,
+        a: &[u8],
+        table: &mut [u8],
+        l: Layout,
+        known: usize,
+        h: u32,
+        env: &mut [u16],
+        out: &mut [u8],
+    ) -> Result<usize, Fault>
+        requires { (length a.now ≤ string_bytes) × Sized l (length table.old) × (known ≤ l.room) × (h ≡ get_or self.shapes.now self.n 0) × (l.places ≡ places_of h) }
+        ensures { NotedRan a.now self.entry.template.now self.entry.tlen self.entry.shapes.now self.entry.n l known table.old out.old out.new result }
+    {
+        if !end_calls(a, self.shapes, self.arities, self.n, table, l, known, h) {
+            return Err(Fault::Lost);
         }
-        return AfterRound {
-            more: false,
-            fits: false,
-            len: 0,
-        };
+        run(
+            a,
+            self.n,
+            self.template,
+            self.tlen,
+            table,
+            l,
+            known,
+            env,
+            out,
+        )
     }
-    let f = rewriting::rewrite(a, size, n, template, tlen, shapes, filled);
-    AfterRound {
-        more: false,
-        fits: f.fits,
-        len: f.len,
-    }
-}
 
-// Rounds until no call of n is left. Should there be more than enough, the calls that are left are replaced one after another.
-fn rounds(
-    a: &mut [u8],
-    len: usize,
-    n: u16,
-    template: &[u8],
-    tlen: usize,
-    shapes: &[u32],
-    arities: &[u8],
-    table: &mut [u8],
-    env: &mut [u16],
-    filled: &mut [u8],
-) -> Filled
-    requires { (len ≤ length a.old) × (length a.old ≡ length filled.old) × (length filled.old ≤ string_bytes) × (row_bytes ≤ length table.old) × (length table.old < 2 ^ 48) × (arities.now ≡ arity_column) × (tlen ≤ 1024) }
-    ensures { Rewritten a.old len n template.now tlen shapes.now a.new result }
-{
-    let mut size = len;
-    let mut turns: usize = 0;
-    while turns < Bounds::ROUNDS {
-        let t = turn(
-            a, size, n, template, tlen, shapes, arities, table, env, filled,
-        );
-        if t.more {
-            size = t.len;
-        } else {
-            return Filled {
-                fits: t.fits,
-                len: t.len,
-            };
+    // As many calls of n replaced as the table has room for: how many bytes there are then; none where there is no call of n.
+    fn one_round(
+        self,
+        a: &[u8],
+        table: &mut [u8],
+        env: &mut [u16],
+        out: &mut [u8],
+    ) -> Result<Option<usize>, Fault>
+        requires { (length a.now ≤ string_bytes) × (row_bytes ≤ length table.old) × (length table.old < 2 ^ 48) }
+        ensures { Rounded a.now self.entry.template.now self.entry.tlen self.entry.shapes.now self.entry.n out.old out.new result }
+    {
+        let h = symbols::shape_at(self.shapes, self.n as usize);
+        let l = layout_of(h, table.len());
+        let calls = note_calls(a, self.n, table, l);
+        if calls == 0 {
+            return Ok(None);
         }
-        turns += 1;
+        let len = self.replace_noted(a, table, l, calls, h, env, out)?;
+        Ok(Some(len))
     }
-    rewriting::rewrite(a, size, n, template, tlen, shapes, filled)
+
+    // One round on the string of the first `size` bytes.
+    fn first_round(
+        self,
+        a: &[u8],
+        size: usize,
+        table: &mut [u8],
+        env: &mut [u16],
+        out: &mut [u8],
+    ) -> Result<Option<usize>, Fault>
+        requires { (size ≤ length a.now) × (length a.now ≤ string_bytes) × (row_bytes ≤ length table.old) × (length table.old < 2 ^ 48) }
+        ensures { Rounded (take size a.now) self.entry.template.now self.entry.tlen self.entry.shapes.now self.entry.n out.old out.new result }
+    {
+        self.one_round(&a[0..size], table, env, out)
+    }
+
+    // One round on the string of the first `size` bytes, after which there may be calls left; or the answer. Where it cannot be told, the calls are
+    // replaced one after another.
+    fn turn(
+        self,
+        a: &mut [u8],
+        size: usize,
+        table: &mut [u8],
+        env: &mut [u16],
+        filled: &mut [u8],
+    ) -> ControlFlow<Option<usize>, usize>
+        requires { (size ≤ length a.old) × (length a.old ≡ length filled.old) × (length filled.old ≤ string_bytes) × (row_bytes ≤ length table.old) × (length table.old < 2 ^ 48) }
+        ensures { TurnedTo a.old size self.entry.n self.entry.template.now self.entry.tlen self.entry.shapes.now a.new result }
+    {
+        match self.first_round(a, size, table, env, filled) {
+            Ok(None) => ControlFlow::Break(Some(size)),
+            Ok(Some(len)) => {
+                strings::place(filled, len, a, 0);
+                ControlFlow::Continue(len)
+            }
+            Err(Fault::Short) => ControlFlow::Break(None),
+            Err(Fault::Lost) => ControlFlow::Break(rewriting::rewrite(
+                a,
+                size,
+                self.n,
+                self.template,
+                self.tlen,
+                self.shapes,
+                filled,
+            )),
+        }
+    }
+
+    // Rounds until no call of n is left. Should there be more than enough, the calls that are left are replaced one after another.
+    fn rounds(
+        self,
+        a: &mut [u8],
+        len: usize,
+        table: &mut [u8],
+        env: &mut [u16],
+        filled: &mut [u8],
+    ) -> Option<usize>
+        requires { (len ≤ length a.old) × (length a.old ≡ length filled.old) × (length filled.old ≤ string_bytes) × (row_bytes ≤ length table.old) × (length table.old < 2 ^ 48) }
+        ensures { Rewritten a.old len self.entry.n self.entry.template.now self.entry.tlen self.entry.shapes.now a.new result }
+    {
+        let mut size = len;
+        for _turns in 0..Bounds::ROUNDS {
+            match self.turn(a, size, table, env, filled) {
+                ControlFlow::Continue(len) => size = len,
+                ControlFlow::Break(answer) => return answer,
+            }
+        }
+        rewriting::rewrite(
+            a,
+            size,
+            self.n,
+            self.template,
+            self.tlen,
+            self.shapes,
+            filled,
+        )
+    }
 }
 
 // The template copied, and its memory the table's.
@@ -327,18 +239,23 @@ fn rewrite_with(
     template: &mut [u8],
     tlen: usize,
     shapes: &[u32],
-    arities: &[u8],
+    arities: &ArityColumn,
     small: &mut [u8],
     env: &mut [u16],
     filled: &mut [u8],
-) -> Filled
-    requires { (len ≤ length a.old) × (length a.old ≡ length filled.old) × (length filled.old ≤ string_bytes) × (tlen ≤ 1024) × (1024 ≤ length template.old) × (length template.old < 2 ^ 48) × (1024 ≤ length small.old) × (arities.now ≡ arity_column) }
+) -> Option<usize>
+    requires { (len ≤ length a.old) × (length a.old ≡ length filled.old) × (length filled.old ≤ string_bytes) × (tlen ≤ 1024) × (1024 ≤ length template.old) × (length template.old < 2 ^ 48) × (1024 ≤ length small.old) }
     ensures { Rewritten a.old len n template.old tlen shapes.now a.new result }
 {
     strings::place(template, tlen, small, 0);
-    rounds(
-        a, len, n, small, tlen, shapes, arities, template, env, filled,
-    )
+    let x = Replacement {
+        n,
+        template: small,
+        tlen,
+        shapes,
+        arities,
+    };
+    x.rounds(a, len, template, env, filled)
 }
 
 fn rewrite_short(
@@ -349,11 +266,11 @@ fn rewrite_short(
     tlen: usize,
     shapes: &[u32],
     filled: &mut [u8],
-) -> Filled
+) -> Option<usize>
     requires { (len ≤ length a.old) × (length a.old ≡ length filled.old) × (length filled.old ≤ string_bytes) × (tlen ≤ 1024) × (1024 ≤ length template.old) × (length template.old < 2 ^ 48) }
     ensures { Rewritten a.old len n template.old tlen shapes.now a.new result }
 {
-    let arities = rows::arity_column();
+    let arities = ArityColumn::new();
     let mut small = [0u8; Bounds::TEMPLATE];
     let mut env = [0u16; Bounds::BRACKETS];
     rewrite_with(
@@ -372,14 +289,12 @@ pub fn rewrite(
     tlen: usize,
     shapes: &[u32],
     filled: &mut [u8],
-) -> Filled
+) -> Option<usize>
     requires { (len ≤ length a.old) × (length a.old ≡ length filled.old) × (length filled.old ≤ string_bytes) × (length template.old < 2 ^ 48) }
     ensures { Rewritten a.old len n template.old tlen shapes.now a.new result }
 {
-    if tlen <= Bounds::TEMPLATE {
-        if Bounds::TEMPLATE <= template.len() {
-            return rewrite_short(a, len, n, template, tlen, shapes, filled);
-        }
+    if tlen <= Bounds::TEMPLATE && Bounds::TEMPLATE <= template.len() {
+        return rewrite_short(a, len, n, template, tlen, shapes, filled);
     }
     rewriting::rewrite(a, len, n, template, tlen, shapes, filled)
 }

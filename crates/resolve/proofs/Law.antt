@@ -21,7 +21,7 @@ use Rattle.fields.specs.Substitution.{part}
 use Rattle.texts.specs.Text.{Declarations, shown}
 use Rattle.context.specs.Holds.{Holds, module_no}
 use Rattle.context.specs.Entries.{codes_of}
-use Rattle.store.specs.Store.{Store}
+use Rattle.store.specs.declared.Store.{Store}
 use Rattle.context.specs.declared.Counts.{Counts}
 use Rattle.resolve.specs.Look.{look_in}
 use Rattle.resolve.specs.Meaning.{Means}

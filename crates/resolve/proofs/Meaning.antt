@@ -18,13 +18,15 @@ use Rattle.laws.proofs.Invariant.{EntryKnown}
 use Rattle.tokens.specs.declared.Token.TheVariants.{Name, InstanceOperator}
 use Rattle.texts.specs.Text.{Declarations, no_declaration, ref_head}
 use Rattle.context.specs.Holds.{Holds, module_no}
-use Rattle.context.specs.Lookup.{as_code, brought_in, code_named, code_under, operator_at, operator_in}
+use Rattle.context.specs.Lookup.{as_code, bringing, brought_in, code_named, code_under, operator_at, operator_in}
 use Rattle.context.specs.Entries.{codes_of, entry_at, field_code, variable_kind}
-use Rattle.store.specs.Store.{Store, count_at, first_at, kind_at}
+use Rattle.store.specs.Store.{count_at, first_at, kind_at}
+use Rattle.store.specs.declared.Store.{Store}
+use Rattle.store.specs.declared.Facts.{Facts}
+use Rattle.std.specs.Prelude.{Option as Answer, Some, None}
 use Rattle.context.specs.declared.Brought.{Brought}
-use Rattle.context.specs.declared.Brought.TheVariants.{Brings, Nothing}
 use Rattle.context.specs.declared.Counts.{Counts}
-use Rattle.context.specs.declared.Operator.TheVariants.{Constant, Variable, Defined, Unknown}
+use Rattle.context.specs.declared.Operator.TheVariants.{Constant, Variable, Defined}
 use Rattle.context.proofs.Lookups.{brings, brought-law, cond_cases, entry_named, entry_of, instance-law}
 use Rattle.context.proofs.Room.{params-law}
 use Rattle.resolve.specs.Look.{brought_ref, code_ref, declared_ref, defined_ref, look_in, operator_ref}
@@ -58,7 +60,7 @@ module _ (v : Store) (c : Counts) (s : State) (holds : Holds v c s) (decls : Dec
   abbrev names : List ℕ
   names = v.names
 
-  abbrev facts : List ℕ
+  abbrev facts : List Facts
   facts = v.facts
 
   -- a declaration, and a definition
@@ -69,7 +71,7 @@ module _ (v : Store) (c : Counts) (s : State) (holds : Holds v c s) (decls : Dec
       let r = ref-declared decls (first_at facts o) kind x e in
       rw (lt-ltb (first_at facts o) max_declarations (omega arith)) (ap some (sym r), h ∙ ap (head_arity s) (sym r))
 
-  defined-means : (g : ℕ) → g < length s.definitions → Means s decls (defined_ref facts g) (some (defined g))
+  defined-means : (g : ℕ) → g < length s.definitions → Means s decls (Some (defined_ref facts g)) (some (defined g))
   unfolding defined_ref
   defined-means g l =
       let n : g < c.definitions = omega (arith, holds.definitions) in
@@ -86,7 +88,7 @@ module _ (v : Store) (c : Counts) (s : State) (holds : Holds v c s) (decls : Dec
   at_code o p = let h : max_definitions ≤ o = ltb-false o max_definitions p in omega arith
 
   tested-means : (o : ℕ) (a : Bool) → ltb o max_definitions ≡ a → (b e : Bool) → Numbered facts decls (entry o a b e) → EntryKnown (length s.definitions) (entry o a b e)
-      → Means s decls (operator_ref facts (cond a (Defined o) (cond b (Constant o (kind_at facts o)) (cond e (Variable o) Unknown)))) (operator_of (entry o a b e))
+      → Means s decls (operator_ref facts (cond a (Some (Defined o)) (cond b (Some (Constant o (kind_at facts o))) (cond e (Some (Variable o)) None)))) (operator_of (entry o a b e))
   unfolding operator_ref
   tested-means o true p b e h k = defined-means o k
   tested-means o false p true e h k =
@@ -110,9 +112,9 @@ module _ (v : Store) (c : Counts) (s : State) (holds : Holds v c s) (decls : Dec
       go (some g) e = defined-means g (find-has (λ g. g < length s.definitions) _ gs g h e).0
 
   brought-means : (i f a b : ℕ) → 0 < i → All (λ g. g < length s.definitions) (numbers_from a b)
-      → Means s decls (brought_ref names facts i f (Brings a b)) (map_option defined (definition_named s (numbers_from a b) (i ∷ []) f))
+      → Means s decls (brought_ref names facts i f (Some (bringing a b))) (map_option defined (definition_named s (numbers_from a b) (i ∷ []) f))
   unfolding brought_ref code_ref as_code code_under
-  brought-means i f a zero p h = cond_cases (λ (l : Look). Means s decls l none) (leb (a + 0) max_definitions) (λ _. refl) (λ _. refl)
+  brought-means i f a zero p h = cond_cases (λ (l : Answer Look). Means s decls l none) (leb (a + 0) max_definitions) (λ _. refl) (λ _. refl)
   brought-means i f a (suc b) p h =
       rw (le-leb (a + suc b) max_definitions (omega (arith, row_low (length s.definitions) a b h, holds.definitions, holds.sized.definitions)))
       (under-means (numbers_from a (suc b)) i f p h)
@@ -140,7 +142,7 @@ module _ (v : Store) (c : Counts) (s : State) (holds : Holds v c s) (decls : Dec
     unfolding look_in brought_ref
     instance-means i f k p = go (brought_in facts (as_code (code_named names i (codes_of v m)))) (instance-law v c s holds m i there)
       where
-        go : (x : Brought) → brings x ≡ bind_option (entry_of_name i Γ) instance_of
+        go : (x : Answer Brought) → brings x ≡ bind_option (entry_of_name i Γ) instance_of
             → Means s decls (brought_ref names facts i f x) (map_option defined (bind_option (bind_option (entry_of_name i Γ) instance_of) (λ gs. definition_named s gs (i ∷ []) f)))
-        go (Brings a b) e = rw (← e) (brought-means i f a b p (brought-known (length s.definitions) Γ known i (numbers_from a b) e))
-        go Nothing e = rw (← e) refl
+        go (Some b) e = rw (← e) (brought-means i f b.first b.count p (brought-known (length s.definitions) Γ known i (numbers_from b.first b.count) e))
+        go None e = rw (← e) refl

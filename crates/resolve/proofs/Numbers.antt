@@ -4,13 +4,13 @@ use mathlib.Core.Bool.{Bool, false, true}
 use mathlib.Core.List.{List, [], ◌++◌, ◌∷◌, append-nil}
 use mathlib.Core.Option.{Option, none, some}
 use mathlib.Core.Path.{◌∙◌, ◌≡◌, ap, refl, subst, sym}
-use Prim.Native.Nat.{ℕ, zero, suc, ◌+◌, ◌*◌, ◌<◌, ◌≤◌}
+use Prim.Native.Nat.{ℕ, zero, suc, ◌+◌, ◌<◌, ◌≤◌}
 use native.Mathlib.Omega.{arith}
 use lib.Dec.{ltb}
-use lib.ListN.{get_or-append, get_or, length, length-append, take}
+use lib.ListN.{get_or-append, get_or, length, length-append, set, take}
 use lib.Seq.{get_or-append_seam}
 use Rattle.limits.specs.Limits.{max_declarations, max_definitions}
-use Rattle.limits.specs.Sizes.{column_count, facts_length, max_fields}
+use Rattle.limits.specs.Sizes.{code_count, max_fields}
 use Rattle.theory.specs.Lists.{All, ◌∷?◌, collect}
 use Rattle.theory.specs.Term.{Kind}
 use Rattle.theory.proofs.Lists.{append-all, at_all, map-all, none-some}
@@ -22,10 +22,9 @@ use Rattle.texts.specs.Text.{Declarations, no_declaration}
 use Rattle.context.specs.Holds.{module_no}
 use Rattle.context.specs.Entries.{after_declaration, declaration_row, field_code}
 use Rattle.store.specs.Store.{first_at}
-use Rattle.store.specs.Updates.{stored}
 use Rattle.context.specs.declared.Counts.{Counts}
 use Rattle.store.specs.declared.Facts.{Facts}
-use Rattle.context.proofs.Change.{fact-first, fact-other}
+use Rattle.context.proofs.Change.{fact-other, fact-same}
 use Rattle.resolve.specs.Meaning.{Numbered}
 
 -- the declarations of the fields read so far, in their order
@@ -37,12 +36,12 @@ abbrev pub declared_before : List Field → ℕ → ℕ
 declared_before fs f = length (declarations_of (take f fs))
 
 -- The facts of each CONSTANT or VARIABLE field hold its number.
-pub record Declares (facts : List ℕ) (c : Counts) (fs : List Field) : Type 0 where
+pub record Declares (facts : List Facts) (c : Counts) (fs : List Field) : Type 0 where
   pub counted : c.declarations ≡ length (declarations_of fs)
   pub few : c.declarations ≤ max_declarations
   pub numbers : (f : ℕ) → f < length fs → (d : Kind × ℕ) → declaration (get_or fs f end_module) ≡ some d → first_at facts (field_code f) ≡ declared_before fs f
 
-pub no-declarations : (facts : List ℕ) (c : Counts) → c.declarations ≡ 0 → Declares facts c []
+pub no-declarations : (facts : List Facts) (c : Counts) → c.declarations ≡ 0 → Declares facts c []
 no-declarations facts c e = record { counted = e; few = omega arith; numbers = λ f h d q. absurd (omega arith) }
 
 -- a declaration stands in the list at the number of those before it
@@ -77,7 +76,7 @@ take_whole : (fs gs : List Field) → take (length fs) (fs ++ gs) ≡ fs
 take_whole [] gs = refl
 take_whole (x ∷ fs) gs = ap (◌∷◌ x) (take_whole fs gs)
 
-module _ (facts facts' : List ℕ) (c c' : Counts) (fs : List Field) (f : Field) (h : Declares facts c fs)
+module _ (facts facts' : List Facts) (c c' : Counts) (fs : List Field) (f : Field) (h : Declares facts c fs)
     (keeps : (i : ℕ) → i < length fs → first_at facts' (field_code i) ≡ first_at facts (field_code i)) where
   old : (i : ℕ) → i < length fs → (d : Kind × ℕ) → declaration (get_or (fs ++ (f ∷ [])) i end_module) ≡ some d
       → first_at facts' (field_code i) ≡ declared_before (fs ++ (f ∷ [])) i
@@ -123,35 +122,34 @@ module _ (facts facts' : List ℕ) (c c' : Counts) (fs : List Field) (f : Field)
   }
 
 -- what is stored of another code changes no number
-pub stored-keeps : (facts : List ℕ) (o : ℕ) (r : Facts) (i : ℕ) → (o ≡ field_code i → ⊥) → first_at (stored facts o r) (field_code i) ≡ first_at facts (field_code i)
+pub stored-keeps : (facts : List Facts) (o : ℕ) (r : Facts) (i : ℕ) → (o ≡ field_code i → ⊥) → first_at (set facts o r) (field_code i) ≡ first_at facts (field_code i)
 stored-keeps facts o r i n =
-    fact-other facts o r (column_count * field_code i + 1)
-    (λ (k : ℕ) (l : k < column_count) (e : column_count * field_code i + 1 ≡ column_count * o + k). n (omega arith))
+    ap (λ (f : Facts). f.first) (fact-other facts o r (field_code i) (λ (e : field_code i ≡ o). n (sym e)))
 
 -- Each field of a file: CONSTANT and VARIABLE as `add_declaration` leaves the facts,
-pub declares-declaration : (facts : List ℕ) (c : Counts) (fs : List Field) (f : Field) (d : Kind × ℕ) (kind : ℕ) → Declares facts c fs → declaration f ≡ some d
-    → c.fields ≡ length fs → c.fields < max_fields → c.declarations < max_declarations → length facts ≡ facts_length
-    → Declares (stored facts (field_code c.fields) (declaration_row kind c.declarations)) (after_declaration c) (fs ++ (f ∷ []))
+pub declares-declaration : (facts : List Facts) (c : Counts) (fs : List Field) (f : Field) (d : Kind × ℕ) (kind : ℕ) → Declares facts c fs → declaration f ≡ some d
+    → c.fields ≡ length fs → c.fields < max_fields → c.declarations < max_declarations → length facts ≡ code_count
+    → Declares (set facts (field_code c.fields) (declaration_row kind c.declarations)) (after_declaration c) (fs ++ (f ∷ []))
 declares-declaration facts c fs f d kind h e q room few size =
-    declares-one facts (stored facts (field_code c.fields) (declaration_row kind c.declarations)) c (after_declaration c) fs f h
+    declares-one facts (set facts (field_code c.fields) (declaration_row kind c.declarations)) c (after_declaration c) fs f h
     (λ i l. stored-keeps facts (field_code c.fields) (declaration_row kind c.declarations) i (λ (z : field_code c.fields ≡ field_code i). omega arith)) d e refl few
-    (ap (λ (i : ℕ). first_at (stored facts (field_code c.fields) (declaration_row kind c.declarations)) (field_code i)) (sym q)
-    ∙ fact-first facts (field_code c.fields) (declaration_row kind c.declarations) (omega arith))
+    (ap (λ (i : ℕ). first_at (set facts (field_code c.fields) (declaration_row kind c.declarations)) (field_code i)) (sym q)
+    ∙ ap (λ (f : Facts). f.first) (fact-same facts (field_code c.fields) (declaration_row kind c.declarations) (omega arith)))
 
 -- a definition, stored at its number,
-pub declares-definition : (facts : List ℕ) (c c' : Counts) (fs : List Field) (f : Field) (g : ℕ) (r : Facts) → Declares facts c fs → declaration f ≡ none
-    → c'.declarations ≡ c.declarations → g < max_definitions → Declares (stored facts g r) c' (fs ++ (f ∷ []))
+pub declares-definition : (facts : List Facts) (c c' : Counts) (fs : List Field) (f : Field) (g : ℕ) (r : Facts) → Declares facts c fs → declaration f ≡ none
+    → c'.declarations ≡ c.declarations → g < max_definitions → Declares (set facts g r) c' (fs ++ (f ∷ []))
 declares-definition facts c c' fs f g r h e q l =
-    declares-other facts (stored facts g r) c c' fs f h (λ i _. stored-keeps facts g r i (λ (z : g ≡ field_code i). omega arith)) e q
+    declares-other facts (set facts g r) c c' fs f h (λ i _. stored-keeps facts g r i (λ (z : g ≡ field_code i). omega arith)) e q
 
 -- and a field that stores nothing.
-pub declares-same : (facts : List ℕ) (c c' : Counts) (fs : List Field) (f : Field) → Declares facts c fs → declaration f ≡ none → c'.declarations ≡ c.declarations
+pub declares-same : (facts : List Facts) (c c' : Counts) (fs : List Field) (f : Field) → Declares facts c fs → declaration f ≡ none → c'.declarations ≡ c.declarations
     → Declares facts c' (fs ++ (f ∷ []))
 declares-same facts c c' fs f h e q = declares-other facts facts c c' fs f h (λ i _. refl) e q
 
 -- a store inside a field, at a definition's number or at the field's own code, before the field is counted
-pub declares-stored : (facts : List ℕ) (c c' : Counts) (fs : List Field) (o : ℕ) (r : Facts) → Declares facts c fs → c'.declarations ≡ c.declarations
-    → ((i : ℕ) → i < length fs → o ≡ field_code i → ⊥) → Declares (stored facts o r) c' fs
+pub declares-stored : (facts : List Facts) (c c' : Counts) (fs : List Field) (o : ℕ) (r : Facts) → Declares facts c fs → c'.declarations ≡ c.declarations
+    → ((i : ℕ) → i < length fs → o ≡ field_code i → ⊥) → Declares (set facts o r) c' fs
 declares-stored facts c c' fs o r h q out = record {
   counted = q ∙ h.counted;
   few = omega (arith, h.few);
@@ -159,7 +157,7 @@ declares-stored facts c c' fs o r h q out = record {
 }
 
 -- Every declared name of a context has its number.
-numbered-entry : (facts : List ℕ) (c : Counts) (fs : List Field) → Declares facts c fs → (e : Entry) → Faithful fs e → Numbered facts (declarations_of fs) e
+numbered-entry : (facts : List Facts) (c : Counts) (fs : List Field) → Declares facts c fs → (e : Entry) → Faithful fs e → Numbered facts (declarations_of fs) e
 numbered-entry facts c fs h (declares x k f) (l, p) =
     let n : first_at facts (field_code f) ≡ declared_before fs f = h.numbers f l (k, x) p in
     let t = declared-there fs f (k, x) l p in
@@ -167,14 +165,14 @@ numbered-entry facts c fs h (declares x k f) (l, p) =
 numbered-entry facts c fs h (defines x g) w = tt
 numbered-entry facts c fs h (instances x f gs) w = tt
 
-pub few-declarations : (facts : List ℕ) (c : Counts) (fs : List Field) → Declares facts c fs → length (declarations_of fs) ≤ max_declarations
+pub few-declarations : (facts : List Facts) (c : Counts) (fs : List Field) → Declares facts c fs → length (declarations_of fs) ≤ max_declarations
 few-declarations facts c fs h = omega (arith, h.counted, h.few)
 
 module _ (s : State) (m : ℕ) (there : m ≤ length s.ended) where
   inside : m < length (s.ended ++ (s.current ∷ []))
   inside = let l : length (s.ended ++ (s.current ∷ [])) ≡ length s.ended + 1 = length-append s.ended (s.current ∷ []) in omega arith
 
-  pub numbered-context : (facts : List ℕ) (c : Counts) (fs : List Field) → Declares facts c fs → Origins fs s → All (Numbered facts (declarations_of fs)) (module_no s m).context
+  pub numbered-context : (facts : List Facts) (c : Counts) (fs : List Field) → Declares facts c fs → Origins fs s → All (Numbered facts (declarations_of fs)) (module_no s m).context
   numbered-context facts c fs h o =
       map-all (Faithful fs) (Numbered facts (declarations_of fs)) (numbered-entry facts c fs h) (module_no s m).context
       (at_all (λ (M : Module). All (Faithful fs) M.context) (s.ended ++ (s.current ∷ [])) m no_module

@@ -15,12 +15,11 @@ use Rattle.rules.specs.Expression.{Expression, Token as RuleToken, TokenFits, ex
 use Rattle.rules.specs.Judge.{miscounted, miscounted_head, unknown, unknown_head}
 use Rattle.rules.specs.State.{Context, State, head_of, resolve}
 use Rattle.laws.proofs.Invariant.{EntryKnown}
-use Rattle.tokens.specs.Token.{arguments_of, is_token, token_at}
+use Rattle.tokens.specs.Token.{arguments_of}
 use Rattle.tokens.specs.Expr.{Expr, Exprs, Found, Placed, expr_at, found}
 use Rattle.tokens.specs.Fold.{fold, folds, under, Worth}
 use Rattle.tokens.specs.declared.Token.{Token}
-use Rattle.tokens.specs.declared.Token.TheVariants.{Parameter, Bound, Name, InstanceOperator, BuiltIn, Literal, NoToken}
-use Rattle.tokens.proofs.Places.{never as not-true}
+use Rattle.tokens.specs.declared.Token.TheVariants.{Parameter, Bound, Name, InstanceOperator, BuiltIn, Literal}
 use Rattle.tokens.proofs.Writing.{Bytes}
 use Rattle.fields.specs.Substitution.{part}
 use Rattle.agree.specs.Folds.{searching}
@@ -35,13 +34,14 @@ use Rattle.texts.proofs.Noting.{look_head, noted-before, noted-behind, noted-len
 use Rattle.texts.proofs.Spans.{Span, SpanOf, span-found}
 use Rattle.context.specs.Holds.{Holds, module_no}
 use Rattle.context.specs.Entries.{codes_of}
-use Rattle.store.specs.Store.{Store}
+use Rattle.store.specs.declared.Store.{Store}
+use Rattle.store.specs.declared.Facts.{Facts}
 use Rattle.context.specs.declared.Counts.{Counts}
 use Rattle.resolve.specs.Look.{look_in}
 use Rattle.resolve.specs.Meaning.{Means, Numbered, head_arity}
-use Rattle.resolve.specs.Walk.{Looks, Notes, is_no_ref, miscounted_at, miscounted_in, number_in, number_of, unknown_at, unknown_in, wrong_count}
+use Rattle.resolve.specs.Walk.{Looks, Notes, miscounted_at, miscounted_in, number_in, number_of, unknown_at, unknown_in, wrong_count}
+use Rattle.std.specs.Prelude.{Option as Answer, Some, None, is_none}
 use Rattle.resolve.specs.declared.Look.{Look}
-use Rattle.resolve.specs.declared.Look.TheVariants.{Ref, NoRef}
 use Rattle.resolve.proofs.Meaning.{instance-means, name-means}
 
 -- one name, by its answer
@@ -63,19 +63,19 @@ module _ (s : State) (decls : Declarations) where
       go true = refl
       go false = refl
 
-  unknown-name : (n k : ℕ) (l : Look) (h : Option Head) → Means s decls l h → is_no_ref l ≡ unknown_head n k h
-  unknown-name n k (Ref r a) h (e, q) = known-ref n k r ∙ ap (unknown_head n k) (sym e)
-  unknown-name n k NoRef h e = ap (unknown_head n k) (sym e)
+  unknown-name : (n k : ℕ) (l : Answer Look) (h : Option Head) → Means s decls l h → is_none l ≡ unknown_head n k h
+  unknown-name n k (Some l) h (e, q) = known-ref n k l.number ∙ ap (unknown_head n k) (sym e)
+  unknown-name n k None h e = ap (unknown_head n k) (sym e)
 
-  miscounted-name : (a : ℕ) (l : Look) (h : Option Head) → Means s decls l h → wrong_count a l ≡ miscounted_head s h a
-  miscounted-name a (Ref r k) h (e, q) = ap (λ (n : ℕ). not (eqb a n)) q ∙ counted-ref a r ∙ ap (λ (x : Option Head). miscounted_head s x a) (sym e)
-  miscounted-name a NoRef h e = ap (λ (x : Option Head). miscounted_head s x a) (sym e)
+  miscounted-name : (a : ℕ) (l : Answer Look) (h : Option Head) → Means s decls l h → wrong_count a l ≡ miscounted_head s h a
+  miscounted-name a (Some l) h (e, q) = ap (λ (n : ℕ). not (eqb a n)) q ∙ counted-ref a l.number ∙ ap (λ (x : Option Head). miscounted_head s x a) (sym e)
+  miscounted-name a None h e = ap (λ (x : Option Head). miscounted_head s x a) (sym e)
 
-  shown-name : (l : Look) (h : Option Head) → Means s decls l h → is_no_ref l ≡ false → ref_head decls (number_of l) ≡ or_else (leaf (literal 0)) h
-  shown-name (Ref r k) h (e, q) u = ap (or_else (leaf (literal 0))) (sym e)
-  shown-name NoRef h e u = never u
+  shown-name : (l : Answer Look) (h : Option Head) → Means s decls l h → is_none l ≡ false → ref_head decls (number_of l) ≡ or_else (leaf (literal 0)) h
+  shown-name (Some l) h (e, q) u = ap (or_else (leaf (literal 0))) (sym e)
+  shown-name None h e u = never u
 
-module _ (s : State) (decls : Declarations) (Γ : Context) (names facts cs : List ℕ) where
+module _ (s : State) (decls : Declarations) (Γ : Context) (names : List ℕ) (facts : List Facts) (cs : List ℕ) where
   -- what is asked of a token: its names mean what the rules find
   abbrev pub Meant : Token → Type 0
   Meant (Parameter i) = Unit {0}
@@ -84,7 +84,6 @@ module _ (s : State) (decls : Declarations) (Γ : Context) (names facts cs : Lis
   Meant (InstanceOperator i f k) = Means s decls (look_in names facts cs (InstanceOperator i f k)) (head_of s Γ (as_token (InstanceOperator i f k)))
   Meant (BuiltIn c) = Unit {0}
   Meant (Literal v) = Unit {0}
-  Meant NoToken = ⊥
 
   unknown-token : (n k : ℕ) (t : Token) → Meant t → unknown_at n k t (look_in names facts cs t) ≡ unknown_head n k (head_of s Γ (as_token t))
   unknown-token n k (Parameter i) m = refl
@@ -94,7 +93,6 @@ module _ (s : State) (decls : Declarations) (Γ : Context) (names facts cs : Lis
       unknown-name s decls n k (look_in names facts cs (InstanceOperator i f a)) (head_of s Γ (as_token (InstanceOperator i f a))) m
   unknown-token n k (BuiltIn c) m = refl
   unknown-token n k (Literal v) m = refl
-  unknown-token n k NoToken m = absurd m
 
   miscounted-token : (t : Token) → Meant t → miscounted_at t (look_in names facts cs t) ≡ miscounted_head s (head_of s Γ (as_token t)) (arguments_of t)
   miscounted-token (Parameter i) m = refl
@@ -104,7 +102,6 @@ module _ (s : State) (decls : Declarations) (Γ : Context) (names facts cs : Lis
       miscounted-name s decls a (look_in names facts cs (InstanceOperator i f a)) (head_of s Γ (as_token (InstanceOperator i f a))) m
   miscounted-token (BuiltIn c) m = refl
   miscounted-token (Literal v) m = refl
-  miscounted-token NoToken m = absurd m
 
   shown-token : (n k : ℕ) (t : Token) → Meant t → unknown_at n k t (look_in names facts cs t) ≡ false
       → look_head (number_in names facts cs) decls t ≡ or_else (leaf (literal 0)) (head_of s Γ (as_token t))
@@ -115,7 +112,6 @@ module _ (s : State) (decls : Declarations) (Γ : Context) (names facts cs : Lis
       shown-name s decls (look_in names facts cs (InstanceOperator i f a)) (head_of s Γ (as_token (InstanceOperator i f a))) m u
   shown-token n k (BuiltIn c) m u = refl
   shown-token n k (Literal v) m u = refl
-  shown-token n k NoToken m u = absurd m
 
   -- a tree with no unknown token shows what the rules resolve it to
   mutual
@@ -145,7 +141,7 @@ module _ (s : State) (decls : Declarations) (Γ : Context) (names facts cs : Lis
     unknown-both : (u ≡ unknown s Γ n e) × (x ≡ at + l)
     unknown-both =
         somewhere-worth file bytes at l e room q nest deep (λ k t m. unknown_head n k (head_of s Γ t)) (unknown_in names facts cs n)
-        (λ i a b h k. unknown-token n k (token_at file i) (meant i a b h)) 0 u x parts.0
+        (λ i a b t h k. unknown-token n k t (meant i a b t h)) 0 u x parts.0
 
     pub walk-unknown : u ≡ unknown s Γ n e
     walk-unknown = unknown-both.0
@@ -156,7 +152,7 @@ module _ (s : State) (decls : Declarations) (Γ : Context) (names facts cs : Lis
     pub walk-miscounted : c ≡ miscounted s Γ e
     walk-miscounted =
         (somewhere-worth file bytes at l e room q nest deep (λ k t m. miscounted_head s (head_of s Γ t) m) (miscounted_in names facts cs)
-        (λ i a b h k. miscounted-token (token_at file i) (meant i a b h)) 0 c x parts.1).0
+        (λ i a b t h k. miscounted-token t (meant i a b t h)) 0 c x parts.1).0
 
     tree : (t : Expr) × (expr_at nest file at ≡ found t (at + l)) × (as_tree t ≡ e)
     tree = expression-in-file file at l e room q nest deep
@@ -199,14 +195,13 @@ module _ (v : Store) (c : Counts) (s : State) (holds : Holds v c s) (decls : Dec
   abbrev Mean : Token → Type 0
   Mean t = Meant s decls (module_no s m).context v.names v.facts (codes_of v m) t
 
-  token-means : (t : Token) → is_token t ≡ true → TokenFits (as_token t) → Mean t
-  token-means (Parameter i) h f = tt
-  token-means (Bound j) h f = tt
-  token-means (Name n k) h f = name-means v c s holds decls few m there numbered known n k
-  token-means (InstanceOperator i x k) h f = instance-means v c s holds decls few m there numbered known i x k (leb→le 1 i f.0.1)
-  token-means (BuiltIn b) h f = tt
-  token-means (Literal z) h f = tt
-  token-means NoToken h f = not-true h
+  token-means : (t : Token) → TokenFits (as_token t) → Mean t
+  token-means (Parameter i) f = tt
+  token-means (Bound j) f = tt
+  token-means (Name n k) f = name-means v c s holds decls few m there numbered known n k
+  token-means (InstanceOperator i x k) f = instance-means v c s holds decls few m there numbered known i x k (leb→le 1 i f.0.1)
+  token-means (BuiltIn b) f = tt
+  token-means (Literal z) f = tt
 
   pub names-mean : (from to : ℕ) → Between file (λ i t. Mean t) from to
-  names-mean from to i a b h = token-means (token_at file i) h (good-at file i bytes h).0
+  names-mean from to i a b t h = token-means t (good-at file i bytes t h).0

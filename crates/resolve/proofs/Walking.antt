@@ -8,13 +8,14 @@ use native.Mathlib.Omega.{arith}
 use lib.Dec.{eqb, leb}
 use lib.ListN.{length, set}
 use lib.Seq.{set_out}
+use Rattle.std.specs.Prelude.{Option, None, Some}
 use Rattle.theory.specs.Tree.{node, ⟨⟩}
 use Rattle.rows.specs.Rows.{binder_of}
-use Rattle.tokens.specs.Token.{token_at, is_token, width_of, arguments_of}
+use Rattle.tokens.specs.Token.{token_at, width_of, arguments_of}
 use Rattle.tokens.specs.Expr.{Expr, Found, found, none, Founds, founds, nones, before, after, several, over, expr_at, placed}
 use Rattle.tokens.specs.Fold.{Algebra, under_of, Worth}
 use Rattle.tokens.specs.declared.Token.{Token}
-use Rattle.tokens.specs.declared.Token.TheVariants.{Parameter, Bound, Name, InstanceOperator, BuiltIn, Literal, NoToken}
+use Rattle.tokens.specs.declared.Token.TheVariants.{Parameter, Bound, Name, InstanceOperator, BuiltIn, Literal}
 use Rattle.tokens.proofs.Folding.{at-limit, at-nothing, at-token, none_left, one_more}
 use Rattle.tokens.proofs.Places.{cases}
 use Rattle.tokens.proofs.Reading.{expr-zero, expr-none, expr-more, several-more}
@@ -23,39 +24,40 @@ use Rattle.texts.proofs.Noting.{noted-length, noteds-length}
 use Rattle.agree.specs.Folds.{binds_of, searching}
 use Rattle.resolve.specs.Look.{look_in}
 use Rattle.resolve.specs.Walk.{number_of, wrong_count, unknown_at, miscounted_at, note_of, inside, word_count, unknown_in, miscounted_in, number_in, Notes, NotesAll, Looks, LooksAll}
+use Rattle.std.specs.Prelude.{Option as Answer, Some}
 use Rattle.resolve.specs.declared.Look.{Look}
-use Rattle.resolve.specs.declared.Look.TheVariants.{Ref}
+use Rattle.store.specs.declared.Facts.{Facts}
 
 pub out-of-table : (refs : List ℕ) (at number : ℕ) → length refs ≤ at → refs ≡ set refs at number
 out-of-table refs at number h = sym (set_out refs at number h)
 
-pub noted-name : (refs refs' : List ℕ) (at number : ℕ) (t : Token) (l : Look) (i : Bool) → refs' ≡ set refs at number → number ≡ number_of l → i ≡ is_name t → i ≡ true
+pub noted-name : (refs refs' : List ℕ) (at number : ℕ) (t : Token) (l : Answer Look) (i : Bool) → refs' ≡ set refs at number → number ≡ number_of l → i ≡ is_name t → i ≡ true
     → refs' ≡ note_of at t l refs
 noted-name refs refs' at number t l i e n p q = rw (← p, q, ← n) e
 
-pub noted_other : (refs : List ℕ) (at : ℕ) (t : Token) (l : Look) (i : Bool) → i ≡ is_name t → i ≡ false → refs ≡ note_of at t l refs
+pub noted_other : (refs : List ℕ) (at : ℕ) (t : Token) (l : Answer Look) (i : Bool) → i ≡ is_name t → i ≡ false → refs ≡ note_of at t l refs
 noted_other refs at t l i p q = rw (← p, q)
 
 -- what a token is unknown or miscounted by
-pub wrong-count : (l : Look) (r n k : ℕ) → l ≡ Ref r n → not (eqb k n) ≡ wrong_count k l
-wrong-count l r n k e = rw e
+pub wrong-count : (l : Answer Look) (look : Look) (k : ℕ) → l ≡ Some look → not (eqb k look.arity) ≡ wrong_count k l
+wrong-count l look k e = rw e
 
-pub unknown-parameter : (t : Token) (l : Look) (p k i : ℕ) → t ≡ Parameter i → leb p i ≡ unknown_at p k t l
+pub unknown-parameter : (t : Token) (l : Answer Look) (p k i : ℕ) → t ≡ Parameter i → leb p i ≡ unknown_at p k t l
 unknown-parameter t l p k i e = rw e
 
-pub unknown-bound : (t : Token) (l : Look) (p k j : ℕ) → t ≡ Bound j → leb k j ≡ unknown_at p k t l
+pub unknown-bound : (t : Token) (l : Answer Look) (p k j : ℕ) → t ≡ Bound j → leb k j ≡ unknown_at p k t l
 unknown-bound t l p k j e = rw e
 
-pub miscounted-name : (t : Token) (l : Look) (n k : ℕ) (b : Bool) → t ≡ Name n k → b ≡ wrong_count k l → b ≡ miscounted_at t l
+pub miscounted-name : (t : Token) (l : Answer Look) (n k : ℕ) (b : Bool) → t ≡ Name n k → b ≡ wrong_count k l → b ≡ miscounted_at t l
 miscounted-name t l n k b e h = rw e h
 
-pub miscounted-instance : (t : Token) (l : Look) (i f k : ℕ) (b : Bool) → t ≡ InstanceOperator i f k → b ≡ wrong_count k l → b ≡ miscounted_at t l
+pub miscounted-instance : (t : Token) (l : Answer Look) (i f k : ℕ) (b : Bool) → t ≡ InstanceOperator i f k → b ≡ wrong_count k l → b ≡ miscounted_at t l
 miscounted-instance t l i f k b e h = rw e h
 
-pub unknown-or : (r a b : Bool) (p k : ℕ) (t : Token) (l : Look) → r ≡ (a || b) → a ≡ unknown_at p k t l → r ≡ (unknown_at p k t l || b)
+pub unknown-or : (r a b : Bool) (p k : ℕ) (t : Token) (l : Answer Look) → r ≡ (a || b) → a ≡ unknown_at p k t l → r ≡ (unknown_at p k t l || b)
 unknown-or r a b p k t l h e = h ∙ ap (λ (x : Bool). x || b) e
 
-pub miscounted-or : (r a b : Bool) (t : Token) (l : Look) → r ≡ (a || b) → a ≡ miscounted_at t l → r ≡ (miscounted_at t l || b)
+pub miscounted-or : (r a b : Bool) (t : Token) (l : Answer Look) → r ≡ (a || b) → a ≡ miscounted_at t l → r ≡ (miscounted_at t l || b)
 miscounted-or r a b t l h e = h ∙ ap (λ (x : Bool). x || b) e
 
 -- the bound variables of a token's last argument
@@ -70,7 +72,7 @@ binds-one t b k p q = rw (← p, ne_eqb b 0 q)
 
 -- what is noted
 
-module _ (names facts cs : List ℕ) where
+module _ (names : List ℕ) (facts : List Facts) (cs : List ℕ) where
   abbrev look : Token → ℕ
   look = number_in names facts cs
 
@@ -99,7 +101,7 @@ module _ (names facts cs : List ℕ) where
 
 -- what `search` cites
 
-module _ (names facts cs : List ℕ) (p k n : ℕ) (s : List ℕ) (at : ℕ) (refs : List ℕ) (u c : Bool) (x : ℕ) where
+module _ (names : List ℕ) (facts : List Facts) (cs : List ℕ) (p k n : ℕ) (s : List ℕ) (at : ℕ) (refs : List ℕ) (u c : Bool) (x : ℕ) where
   pub w-limit : n ≡ 0 → Looks names facts cs p k (expr_at n s at) refs refs u c x
   unfolding Looks Notes
   w-limit h = (
@@ -108,28 +110,28 @@ module _ (names facts cs : List ℕ) (p k n : ℕ) (s : List ℕ) (at : ℕ) (re
     rw (expr-zero n s at h) refl,
   )
 
-  pub w-nothing : (t : Token) (i : Bool) → t ≡ token_at s at → i ≡ is_token t → i ≡ false → Looks names facts cs p k (expr_at n s at) refs refs u c x
+  pub w-nothing : (o : Option Token) → o ≡ token_at s at → o ≡ None → Looks names facts cs p k (expr_at n s at) refs refs u c x
   unfolding Looks Notes
-  w-nothing t i e f g = (
-    at-nothing (searching (unknown_in names facts cs p)) n s at k u x t i e f g,
-    at-nothing (searching (miscounted_in names facts cs)) n s at k c x t i e f g,
-    rw (expr-none n s at (rw (← e) (sym f ∙ g))) refl,
+  w-nothing o e f = (
+    at-nothing (searching (unknown_in names facts cs p)) n s at k u x o e f,
+    at-nothing (searching (miscounted_in names facts cs)) n s at k c x o e f,
+    rw (expr-none n s at (sym e ∙ f)) refl,
   )
 
-  pub w-token : (t : Token) (l : Look) (i : Bool) (inner w a y : ℕ) (refs₁ refs₂ : List ℕ) (u₂ c₂ : Bool)
-      → LooksAll names facts cs p k inner (several (expr_at (n - 1) s) (at + w) a) refs₁ refs₂ u₂ c₂ y → t ≡ token_at s at → i ≡ is_token t → i ≡ true → (n ≡ 0 → ⊥)
+  pub w-token : (o : Option Token) (t : Token) (l : Answer Look) (inner w a y : ℕ) (refs₁ refs₂ : List ℕ) (u₂ c₂ : Bool)
+      → LooksAll names facts cs p k inner (several (expr_at (n - 1) s) (at + w) a) refs₁ refs₂ u₂ c₂ y → o ≡ token_at s at → o ≡ Some t → (n ≡ 0 → ⊥)
       → l ≡ look_in names facts cs t → refs₁ ≡ note_of at t l refs → inner ≡ inside t k → w ≡ width_of t → a ≡ arguments_of t → x ≡ y → u ≡ (unknown_at p k t l || u₂)
       → c ≡ (miscounted_at t l || c₂) → Looks names facts cs p k (expr_at n s at) refs refs₂ u c x
   unfolding Looks LooksAll
-  w-token t l i inner w a y refs₁ refs₂ u₂ c₂ h e f g z hl hr hi hw ha hx hu hc = (
-    at-token (searching (unknown_in names facts cs p)) n s at k u x t i inner w a u₂ z e f g hi hw ha (rw (← hx) at h.0) (rw hl at hu),
-    at-token (searching (miscounted_in names facts cs)) n s at k c x t i inner w a c₂ z e f g hi hw ha (rw (← hx) at h.1) (rw hl at hc),
-    rw (expr-more n s at z (rw (← e) (sym f ∙ g)))
-        (notes-over names facts cs at (token_at s at) (several (expr_at (n - 1) s) (at + width_of (token_at s at)) (arguments_of (token_at s at))) refs refs₁ refs₂
-        (rw (hl, e) at hr) (rw (hw, ha, e) at h.2)),
+  w-token o t l inner w a y refs₁ refs₂ u₂ c₂ h e f z hl hr hi hw ha hx hu hc = (
+    at-token (searching (unknown_in names facts cs p)) n s at k u x o t inner w a u₂ z e f hi hw ha (rw (← hx) at h.0) (rw hl at hu),
+    at-token (searching (miscounted_in names facts cs)) n s at k c x o t inner w a c₂ z e f hi hw ha (rw (← hx) at h.1) (rw hl at hc),
+    rw (expr-more n s at t z (sym e ∙ f))
+        (notes-over names facts cs at t (several (expr_at (n - 1) s) (at + width_of t) (arguments_of t)) refs refs₁ refs₂
+        (rw hl at hr) (rw (hw, ha) at h.2)),
   )
 
-module _ (names facts cs : List ℕ) (p outer last n : ℕ) (s : List ℕ) (at k : ℕ) (refs : List ℕ) where
+module _ (names : List ℕ) (facts : List Facts) (cs : List ℕ) (p outer last n : ℕ) (s : List ℕ) (at k : ℕ) (refs : List ℕ) where
   pub w-none : (u c : Bool) (x : ℕ) → k ≡ 0 → x ≡ at → u ≡ false → c ≡ false → LooksAll names facts cs p outer last (several (expr_at n s) at k) refs refs u c x
   unfolding LooksAll NotesAll noted
   w-none u c x h hx hu hc =
@@ -158,7 +160,6 @@ one_deeper (Name n a) k = omega arith
 one_deeper (InstanceOperator i f a) k = omega arith
 one_deeper (BuiltIn c) k = cases (λ (d : ℕ). d ≤ k + 1) (eqb (binder_of c) 0) (λ _. omega arith) (λ _. omega arith)
 one_deeper (Literal v) k = omega arith
-one_deeper NoToken k = omega arith
 
 pub deeper-low : (t : Token) (k n b : ℕ) → b ≡ inside t k → k + n < word_count → (n ≡ 0 → ⊥) → b + (n - 1) < word_count
 deeper-low t k n b h p q = let d = one_deeper t k in omega arith

@@ -7,12 +7,11 @@ pub mod lookup;
 pub mod steps;
 pub mod walk;
 
-// What a name means, as a number, and how many arguments it takes. The number is a definition's, or 256 more than a declaration's; no
-// number, if the name is unknown.
+// What a known name means, as a number, and how many arguments it takes. The number is a definition's, or 256 more than a declaration's.
 #[derive(Clone, Copy)]
-pub enum Look {
-    Ref(u16, u16),
-    NoRef,
+pub struct Look {
+    pub number: u16,
+    pub arity: u16,
 }
 
 // What a walk asks in: the module whose context it is, how many parameters are known, and how many bound variables.
@@ -25,6 +24,7 @@ pub struct Ask {
 
 // The position after an expression; whether a name, parameter or bound index in it is unknown (cause 9); whether an argument count is wrong
 // (cause 10).
+// Both may hold, beside a position that stands in any case: causes 9 and 10, each a value of its own.
 #[derive(Clone, Copy)]
 pub struct Looked {
     pub next: usize,

@@ -6,92 +6,65 @@ ghost use Rattle.texts.specs.Noted.{is_name};
 ghost use Rattle.context.specs.Entries.{context_codes};
 ghost use Rattle.agree.specs.Folds.{binds_of};
 ghost use Rattle.resolve.specs.Look.{look_in};
-ghost use Rattle.resolve.specs.Walk.{number_of, is_no_ref, wrong_count, unknown_at, miscounted_at, note_of, inside, word_count};
-ghost use Rattle.store.specs.Store.{held};
+ghost use Rattle.resolve.specs.Walk.{number_of, wrong_count, unknown_at, miscounted_at, note_of, inside, word_count};
 
 use crate::lookup::look_up;
 use crate::{Ask, Look, Looked};
 use store::{Lent, Store};
 use tokens::Token;
 
-fn either(a: bool, b: bool) -> bool
-    ensures { result ≡ a || b }
-{
-    if a { true } else { b }
-}
-
 // Whether a token is a name, alone or after an instance's.
 pub fn is_name(t: Token) -> bool
     ensures { result ≡ is_name t }
 {
-    match t {
-        Token::Parameter(_) => false,
-        Token::Bound(_) => false,
-        Token::Name(_, _) => true,
-        Token::InstanceOperator(_, _, _) => true,
-        Token::BuiltIn(_) => false,
-        Token::Literal(_) => false,
-        Token::NoToken => false,
-    }
+    matches!(t, Token::Name(_, _) | Token::InstanceOperator(_, _, _))
 }
 
 // The number that a name was resolved to.
-pub fn number_of(l: Look) -> u16
+pub fn number_of(l: Option<Look>) -> u16
     ensures { result ≡ number_of l }
 {
     match l {
-        Look::Ref(number, _) => number,
-        Look::NoRef => 0,
-    }
-}
-
-// Whether it means nothing.
-pub fn is_no_ref(l: Look) -> bool
-    ensures { result ≡ is_no_ref l }
-{
-    match l {
-        Look::Ref(_, _) => false,
-        Look::NoRef => true,
+        Some(look) => look.number,
+        None => 0,
     }
 }
 
 // Cause 10 at a name with k arguments written.
-pub fn wrong_count(k: u8, l: Look) -> bool
+pub fn wrong_count(k: u16, l: Option<Look>) -> bool
     ensures { result ≡ wrong_count k l }
 {
     match l {
-        Look::Ref(_, count) => (k as u16) != count,
-        Look::NoRef => false,
+        Some(look) => k != look.arity,
+        None => false,
     }
 }
 
 // Cause 9 at a token, so many parameters and bound variables being known.
-fn is_unknown(t: Token, params: usize, bound: usize, l: Look) -> bool
+fn is_unknown(t: Token, params: usize, bound: usize, l: Option<Look>) -> bool
     ensures { result ≡ unknown_at params bound t l }
 {
     match t {
         Token::Parameter(i) => params <= (i as usize),
         Token::Bound(j) => bound <= (j as usize),
-        Token::Name(_, _) => is_no_ref(l),
-        Token::InstanceOperator(_, _, _) => is_no_ref(l),
+        Token::Name(_, _) => l.is_none(),
+        Token::InstanceOperator(_, _, _) => l.is_none(),
         Token::BuiltIn(_) => false,
         Token::Literal(_) => false,
-        Token::NoToken => false,
     }
 }
 
 // Cause 10 at a token.
-fn is_miscounted(t: Token, l: Look) -> bool
+fn is_miscounted(t: Token, l: Option<Look>) -> bool
     ensures { result ≡ miscounted_at t l }
 {
     match t {
         Token::Parameter(_) => false,
         Token::Bound(_) => false,
-        Token::Name(_, k) => wrong_count(k, l),
-        Token::InstanceOperator(_, _, k) => wrong_count(k, l),
+        Token::Name(_, k) => wrong_count(k as u16, l),
+        Token::InstanceOperator(_, _, k) => wrong_count(k as u16, l),
         Token::BuiltIn(_) => false,
         Token::Literal(_) => false,
-        Token::NoToken => false,
     }
 }
 
@@ -105,7 +78,7 @@ fn put(refs: &mut [u16], at: usize, number: u16)
     refs[at] = number;
 }
 
-fn note_token(refs: &mut [u16], at: usize, t: Token, l: Look)
+fn note_token(refs: &mut [u16], at: usize, t: Token, l: Option<Look>)
     ensures { refs.new ≡ note_of at t l refs.old }
 {
     if is_name(t) {
@@ -125,7 +98,6 @@ fn binds(t: Token) -> u8
         Token::InstanceOperator(_, _, _) => 0,
         Token::BuiltIn(c) => rows::binder(c),
         Token::Literal(_) => 0,
-        Token::NoToken => 0,
     }
 }
 
@@ -146,14 +118,14 @@ pub fn bound_in(left: u8, outer: usize, last: usize) -> usize
 
 // A token looked up and noted.
 pub fn look_note(
-    store: &[u16; Store::LENGTH],
+    store: &Store,
     refs: &mut [u16; Lent::REFS],
     at: usize,
     m: usize,
     t: Token,
-) -> Look
+) -> Option<Look>
     requires { m ≤ max_modules }
-    ensures { (result ≡ look_in (held store.now).names (held store.now).facts (context_codes (held store.now).contexts (held store.now).heads m) t) × (refs.new ≡ note_of at t result refs.old) }
+    ensures { (result ≡ look_in store.now.names store.now.facts (context_codes store.now.contexts store.now.heads m) t) × (refs.new ≡ note_of at t result refs.old) }
 {
     let l = look_up(store, m, t);
     note_token(refs, at, t, l);
@@ -161,13 +133,13 @@ pub fn look_note(
 }
 
 // What a token and its arguments come to.
-pub fn with_args(t: Token, l: Look, ask: Ask, a: Looked) -> Looked
+pub fn with_args(t: Token, l: Option<Look>, ask: Ask, a: Looked) -> Looked
     ensures { (result.next ≡ a.next) × (result.unknown ≡ unknown_at ask.params ask.bound t l || a.unknown) × (result.miscounted ≡ miscounted_at t l || a.miscounted) }
 {
     Looked {
         next: a.next,
-        unknown: either(is_unknown(t, ask.params, ask.bound, l), a.unknown),
-        miscounted: either(is_miscounted(t, l), a.miscounted),
+        unknown: is_unknown(t, ask.params, ask.bound, l) || a.unknown,
+        miscounted: is_miscounted(t, l) || a.miscounted,
     }
 }
 
@@ -188,7 +160,7 @@ pub fn both(a: Looked, b: Looked) -> Looked
 {
     Looked {
         next: b.next,
-        unknown: either(a.unknown, b.unknown),
-        miscounted: either(a.miscounted, b.miscounted),
+        unknown: a.unknown || b.unknown,
+        miscounted: a.miscounted || b.miscounted,
     }
 }

@@ -4,7 +4,6 @@ ghost use Rattle.limits.specs.Limits.{max_modules, max_nesting};
 ghost use Rattle.tokens.specs.Expr.{expr_at, several};
 ghost use Rattle.context.specs.Entries.{context_codes};
 ghost use Rattle.resolve.specs.Walk.{word_count, Looks, LooksAll};
-ghost use Rattle.store.specs.Store.{held};
 
 use crate::steps::{both, bound_in, bound_inside, look_note, nothing, with_args};
 use crate::{Ask, Looked};
@@ -21,14 +20,14 @@ struct Args {
 // Looks up every name of the expression at `at` of s, which keeps the limits, in the context of a module, with so many parameters.
 pub fn look_at(
     s: &[u8],
-    store: &[u16; Store::LENGTH],
+    store: &Store,
     refs: &mut [u16; Lent::REFS],
     at: usize,
     m: usize,
     params: usize,
 ) -> Looked
     requires { m ≤ max_modules }
-    ensures { Looks (held store.now).names (held store.now).facts (context_codes (held store.now).contexts (held store.now).heads m) params 0 (expr_at max_nesting s.now at) refs.old refs.new result.unknown result.miscounted result.next }
+    ensures { Looks store.now.names store.now.facts (context_codes store.now.contexts store.now.heads m) params 0 (expr_at max_nesting s.now at) refs.old refs.new result.unknown result.miscounted result.next }
 {
     let ask = Ask {
         module: m,
@@ -42,46 +41,44 @@ pub fn look_at(
 #[cycle(look_args_look_expr)]
 pub fn look_expr(
     s: &[u8],
-    store: &[u16; Store::LENGTH],
+    store: &Store,
     refs: &mut [u16; Lent::REFS],
     at: usize,
     nest: usize,
     ask: Ask,
 ) -> Looked
     requires { (ask.«module» ≤ max_modules) × (ask.bound + nest < word_count) }
-    ensures { Looks (held store.now).names (held store.now).facts (context_codes (held store.now).contexts (held store.now).heads ask.«module») ask.params ask.bound (expr_at nest s.now at) refs.old refs.new result.unknown result.miscounted result.next }
+    ensures { Looks store.now.names store.now.facts (context_codes store.now.contexts store.now.heads ask.«module») ask.params ask.bound (expr_at nest s.now at) refs.old refs.new result.unknown result.miscounted result.next }
 {
     if nest == 0 {
         return nothing(at);
     }
-    let t = tokens::token_at(s, at);
-    if tokens::is_token(t) {
-        let l = look_note(store, refs, at, ask.module, t);
-        let next = at + tokens::width(t);
-        let args = Args {
-            at: next,
-            left: tokens::arguments(t),
-            last: bound_inside(t, ask.bound),
-        };
-        let a = look_args(s, store, refs, args, nest - 1, ask);
-        with_args(t, l, ask, a)
-    } else {
-        nothing(at)
-    }
+    let Some(t) = tokens::token_at(s, at) else {
+        return nothing(at);
+    };
+    let l = look_note(store, refs, at, ask.module, t);
+    let next = at + tokens::width(t);
+    let args = Args {
+        at: next,
+        left: tokens::arguments(t),
+        last: bound_inside(t, ask.bound),
+    };
+    let a = look_args(s, store, refs, args, nest - 1, ask);
+    with_args(t, l, ask, a)
 }
 
 // The same for arguments in a row.
 #[cycle(look_args_look_expr)]
 fn look_args(
     s: &[u8],
-    store: &[u16; Store::LENGTH],
+    store: &Store,
     refs: &mut [u16; Lent::REFS],
     args: Args,
     nest: usize,
     ask: Ask,
 ) -> Looked
     requires { (ask.«module» ≤ max_modules) × (ask.bound + nest < word_count) × (args.last + nest < word_count) }
-    ensures { LooksAll (held store.now).names (held store.now).facts (context_codes (held store.now).contexts (held store.now).heads ask.«module») ask.params ask.bound args.last (several (expr_at nest s.now) args.at args.left) refs.old refs.new result.unknown result.miscounted result.next }
+    ensures { LooksAll store.now.names store.now.facts (context_codes store.now.contexts store.now.heads ask.«module») ask.params ask.bound args.last (several (expr_at nest s.now) args.at args.left) refs.old refs.new result.unknown result.miscounted result.next }
 {
     let at = args.at;
     let left = args.left;

@@ -11,12 +11,12 @@ use native.Mathlib.Omega.{arith}
 use Prim.Native.Nat.{ℕ, ◌+◌, ◌-◌, ◌%◌, ◌<◌, ◌≤◌, min}
 use Rattle.strings.specs.Laid.{Laid, arguments_at}
 use Rattle.strings.specs.Read.{shape_in, string_at, symbol_at, symbol_of, width_of}
-use Rattle.strings.specs.declared.Filled.{Filled}
+use Rattle.std.specs.Prelude.{None, Option, Some}
+use Rattle.std.proofs.lemmas.Option.{none-some, same_Some}
 use Rattle.strings.specs.declared.Sign.{Sign}
 use Rattle.strings.specs.declared.Sign.TheVariants.{Call}
 use Rattle.symbols.specs.Pieces.{scan}
 use Rattle.symbols.specs.Symbol.{Symbol, calls, fill}
-use Rattle.theory.proofs.Lists.{never}
 use Rattle.rewriting.proofs.Bounding.{arguments-same}
 use Rattle.rewriting.proofs.Standing.{all_done, carried, moved-right, no-fill, no_room, over_done, replaced-going}
 use Rattle.rewriting.specs.Ends.{end_of, last_from}
@@ -41,79 +41,94 @@ unfolding end_of
 end-no a shapes h at e = rw (ne_eqb (h % 2) 1 e)
 
 -- fill_call
-pub call-filled : (a : List ℕ) (at h : ℕ) (template : List ℕ) (tlen : ℕ) (shapes before after bounds : List ℕ) (f : Filled) → Bounds a shapes h at bounds
-    → Laid (fill (arguments_at a bounds) 0 (string_at template 0 tlen)) 0 before after f
-    → FilledCall a at h template tlen shapes before after (record { fits = f.fits; len = f.len; end = get_or bounds max_params 0 })
-call-filled a at h template tlen shapes before after bounds f b l =
-    let p : Laid (fill (arguments_of a shapes h at) 0 (string_at template 0 tlen)) 0 before after f =
-    subst (λ (args : List (List Symbol)). Laid (fill args 0 (string_at template 0 tlen)) 0 before after f) (arguments-same a shapes h at bounds b) l in
-    record {
-      laid = record { long = p.long; within = p.within; yes = p.yes; no = p.no };
-      last = b.each max_params (omega arith);
-    }
+module _ (a : List ℕ) (at h : ℕ) (template : List ℕ) (tlen : ℕ) (shapes before after bounds : List ℕ) (f : Option ℕ) (b : Bounds a shapes h at bounds)
+    (l : Laid (fill (arguments_at a bounds) 0 (string_at template 0 tlen)) 0 before after f) where
+  laid-call : Laid (fill (arguments_of a shapes h at) 0 (string_at template 0 tlen)) 0 before after f
+  laid-call = subst (λ (args : List (List Symbol)). Laid (fill args 0 (string_at template 0 tlen)) 0 before after f) (arguments-same a shapes h at bounds b) l
+
+  pub call-filled : (len : ℕ) → f ≡ Some len → FilledCall a at h template tlen shapes before after (Some (record { len = len; end = get_or bounds max_params 0 }))
+  call-filled len e =
+      record {
+        laid = subst (λ (r : Option ℕ). Laid (fill (arguments_of a shapes h at) 0 (string_at template 0 tlen)) 0 before after r) e laid-call;
+        last = λ s z. rw (← same_Some _ s z) (b.each max_params (omega arith));
+      }
+
+  pub call-unfilled : f ≡ None → (r : Option Part) → r ≡ None → FilledCall a at h template tlen shapes before after r
+  call-unfilled e r z =
+      rw z
+      (record {
+        laid = subst (λ (x : Option ℕ). Laid (fill (arguments_of a shapes h at) 0 (string_at template 0 tlen)) 0 before after x) e laid-call;
+        last = λ s k. absurd (none-some s k);
+      })
 
 -- end_at
 module _ (q : ℕ) (filled : List ℕ) (n end : ℕ) (a : List ℕ) where
-  pub ending-none : n ≡ 0 → Ending q filled n end a a (record { fits = false; len = 0 })
-  ending-none e = record { long = refl; yes = λ t. never (sym t); no = λ _. inl e }
+  pub ending-none : n ≡ 0 → Ending q filled n end a a None
+  ending-none e = record { long = refl; yes = λ i t. absurd (none-some i t); no = λ _. inl e }
 
-  pub ending-short : (e : ℕ) → e ≡ min end (length a) → e < q + n → Ending q filled n end a a (record { fits = false; len = 0 })
-  ending-short e m l = record { long = refl; yes = λ t. never (sym t); no = λ _. inr (omega arith) }
+  pub ending-short : (e : ℕ) → e ≡ min end (length a) → e < q + n → Ending q filled n end a a None
+  ending-short e m l = record { long = refl; yes = λ i t. absurd (none-some i t); no = λ _. inr (omega arith) }
 
   pub ending-yes : (e : ℕ) (a' : List ℕ) → e ≡ min end (length a) → (n ≡ 0 → ⊥) → q + n ≤ e → a' ≡ paste a (e - n) filled n → length a' ≡ length a
-      → Ending q filled n end a a' (record { fits = true; len = e - n })
-  ending-yes e a' m z l p k = record { long = k; yes = λ _. (omega arith, omega arith, omega arith, p); no = λ t. never t }
+      → Ending q filled n end a a' (Some (e - n))
+  ending-yes e a' m z l p k =
+      record {
+        long = k;
+        yes = λ i t. let o = same_Some (e - n) i t in (omega arith, omega arith, omega arith, rw (← o) p);
+        no = λ t. absurd (none-some (e - n) (sym t));
+      }
 
 -- replace
 module _ (n : ℕ) (template : List ℕ) (tlen : ℕ) (shapes : List ℕ) (q p : ℕ) (a : List ℕ) (l : p < length a) (c : calls (eqb n) (symbol_at a p) ≡ true)
-    (h : ℕ) (hs : h ≡ get_or shapes n 0) (before filled : List ℕ) (room : length a ≤ length before) (s : Part)
+    (h : ℕ) (hs : h ≡ get_or shapes n 0) (before filled : List ℕ) (room : length a ≤ length before) (s : Option Part)
     (f : FilledCall a (p + 2) h template tlen shapes before filled s) where
   laid : Laid (fill (arguments_of a shapes (get_or shapes n 0) (p + 2)) 0 (string_at template 0 tlen)) 0 before filled (filled_of s)
   laid = subst (λ (z : ℕ). Laid (fill (arguments_of a shapes z (p + 2)) 0 (string_at template 0 tlen)) 0 before filled (filled_of s)) hs f.laid
 
-  pub call-over : s.fits ≡ false → Cleared n template tlen shapes q p a a (record { fits = false; len = 0 })
-  call-over g =
-      record {
+  pub call-over : s ≡ None → (r : Option ℕ) → r ≡ None → Cleared n template tlen shapes q p a a r
+  call-over g r e =
+      rw e
+      (record {
         long = refl;
-        room = λ t. never (sym t);
-        yes = λ t. never (sym t);
-        no = λ _ x w y. no-fill n template tlen shapes x w a q p y l c before filled (filled_of s) laid room g;
-      }
+        room = λ i t. absurd (none-some i t);
+        yes = λ i t. absurd (none-some i t);
+        no = λ _ x w y. no-fill n template tlen shapes x w a q p y l c before filled (filled_of s) laid room (ap filled_of g);
+      })
 
-  pub call-replaced : (a' : List ℕ) (r : Filled) → s.fits ≡ true → Ending q filled s.len s.end a a' r → Cleared n template tlen shapes q p a a' r
-  call-replaced a' r g e =
+  pub call-replaced : (a' : List ℕ) (r : Option ℕ) (u : Part) → s ≡ Some u → Ending q filled u.len u.end a a' r → Cleared n template tlen shapes q p a a' r
+  call-replaced a' r u g e =
       record {
         long = e.long;
-        room = λ t. let z = e.yes t in (omega arith, omega arith);
-        yes = λ t x w y. replaced-going n template tlen shapes x w a q p y l c before filled (filled_of s) laid g a' r ending t;
-        no = λ t x w y. no_room n template tlen shapes x w a q p y l c before filled (filled_of s) laid g a' r ending t;
+        room = λ i t. let z = e.yes i t in (omega arith, omega arith);
+        yes = λ i t x w y. replaced-going n template tlen shapes x w a q p y l c before filled (filled_of s) laid u.len (ap filled_of g) a' r ending i t;
+        no = λ t x w y. no_room n template tlen shapes x w a q p y l c before filled (filled_of s) laid u.len (ap filled_of g) a' r ending t;
       }
     where
-      ending : Ending q filled s.len (last_from a shapes max_params (get_or shapes n 0) (p + 2)) a a' r
-      ending = subst (λ (z : ℕ). Ending q filled s.len z a a' r) (f.last ∙ ap (λ (i : ℕ). last_from a shapes max_params i (p + 2)) hs) e
+      ending : Ending q filled u.len (last_from a shapes max_params (get_or shapes n 0) (p + 2)) a a' r
+      ending = subst (λ (z : ℕ). Ending q filled u.len z a a' r) (f.last u g ∙ ap (λ (i : ℕ). last_from a shapes max_params i (p + 2)) hs) e
 
 -- cleared
 pub call-here : (n : ℕ) (g : Symbol) (a : List ℕ) (p : ℕ) (b : Bool) → b ≡ calls (eqb n) g → g ≡ symbol_at a p → b ≡ true → calls (eqb n) (symbol_at a p) ≡ true
 call-here n g a p b e f t = ap (calls (eqb n)) (sym f) ∙ sym e ∙ t
 
 pub not-here : (n : ℕ) (template : List ℕ) (tlen : ℕ) (shapes : List ℕ) (q p : ℕ) (a : List ℕ) (g : Symbol) (b : Bool) → q ≤ p → p < length a → b ≡ calls (eqb n) g
-    → g ≡ symbol_at a p → b ≡ false → Cleared n template tlen shapes q p a a (record { fits = true; len = p })
+    → g ≡ symbol_at a p → b ≡ false → Cleared n template tlen shapes q p a a (Some p)
 not-here n template tlen shapes q p a g b k l e f t =
     record {
       long = refl;
-      room = λ _. (k, l);
-      yes = λ _ x w y. (y, ap (calls (eqb n)) (sym f) ∙ sym e ∙ t);
-      no = λ z. never z;
+      room = λ i z. let o = same_Some p i z in (omega arith, omega arith);
+      yes = λ i z x w y. rw (← same_Some p i z) (y, ap (calls (eqb n)) (sym f) ∙ sym e ∙ t);
+      no = λ z. absurd (none-some p (sym z));
     }
 
 -- carry
-pub clear-order : (n : ℕ) (template : List ℕ) (tlen : ℕ) (shapes : List ℕ) (q p : ℕ) (a a' : List ℕ) (f : Filled) → Cleared n template tlen shapes q p a a' f
-    → f.fits ≡ true → q ≤ f.len
-clear-order n template tlen shapes q p a a' f c t = (c.room t).0
+pub clear-order : (n : ℕ) (template : List ℕ) (tlen : ℕ) (shapes : List ℕ) (q p : ℕ) (a a' : List ℕ) (f : Option ℕ) → Cleared n template tlen shapes q p a a' f
+    → (at : ℕ) → f ≡ Some at → q ≤ at
+clear-order n template tlen shapes q p a a' f c at t = (c.room at t).0
 
-pub clear-inside : (n : ℕ) (template : List ℕ) (tlen : ℕ) (shapes : List ℕ) (q p : ℕ) (a a' : List ℕ) (f : Filled) → Cleared n template tlen shapes q p a a' f
-    → f.fits ≡ true → f.len < length a'
-clear-inside n template tlen shapes q p a a' f c t = let z = c.room t in omega (arith, z.1, c.long)
+pub clear-inside : (n : ℕ) (template : List ℕ) (tlen : ℕ) (shapes : List ℕ) (q p : ℕ) (a a' : List ℕ) (f : Option ℕ) → Cleared n template tlen shapes q p a a' f
+    → (at : ℕ) → f ≡ Some at → at < length a'
+clear-inside n template tlen shapes q p a a' f c at t = let z = c.room at t in omega (arith, z.1, c.long)
 
 pub carry-done : (q p : ℕ) (a a' : List ℕ) (g : Symbol) (u w : ℕ) → g ≡ symbol_at a p → u ≡ width_of g → 1 ≤ u → w ≡ min u (length a - p) → p < length a → q ≤ p
     → a' ≡ paste a q (drop p a) w → Carried q p a a' w
@@ -128,19 +143,20 @@ carry-done q p a a' g u w e f k m l o z =
     }
 
 -- turn
-module _ (n : ℕ) (template : List ℕ) (tlen : ℕ) (shapes : List ℕ) (q p : ℕ) (a a' : List ℕ) (f : Filled) (c : Cleared n template tlen shapes q p a a' f) where
-  pub turned-over : f.fits ≡ false → Turned n template tlen shapes q p a a' (record { fits = false; q = q; p = p })
-  turned-over g = record { long = c.long; room = λ t. never (sym t); yes = λ t. never (sym t); no = λ _. c.no g }
+module _ (n : ℕ) (template : List ℕ) (tlen : ℕ) (shapes : List ℕ) (q p : ℕ) (a a' : List ℕ) (f : Option ℕ) (c : Cleared n template tlen shapes q p a a' f) where
+  pub turned-over : f ≡ None → (r : Option Moved) → r ≡ None → Turned n template tlen shapes q p a a' r
+  turned-over g r e = rw e (record { long = c.long; room = λ m t. absurd (none-some m t); yes = λ m t. absurd (none-some m t); no = λ _. c.no g })
 
-  pub turned : (a'' : List ℕ) (w : ℕ) → f.fits ≡ true → Carried q f.len a' a'' w → Turned n template tlen shapes q p a a'' (record { fits = true; q = q + w; p = f.len + w })
-  turned a'' w g d =
-      let z = c.room g in
+  pub turned : (a'' : List ℕ) (at w : ℕ) → f ≡ Some at → Carried q at a' a'' w → (m : Moved) → m.q ≡ q + w → m.p ≡ at + w
+      → Turned n template tlen shapes q p a a'' (Some m)
+  turned a'' at w g d m mq mp =
+      let z = c.room at g in
       record {
         long = d.long ∙ c.long;
-        room = λ _. (omega (arith, d.some), omega (arith, z.0), omega (arith, d.inside, c.long));
-        yes = λ _ x v y. let u = c.yes g x v y in
-            carried n x a' q f.len w a'' u.0 (omega (arith, z.1, c.long)) z.0 u.1 d.width d.moved d.long;
-        no = λ t. never t;
+        room = λ k t. rw (← same_Some m k t) (omega (arith, d.some), omega (arith, z.0), omega (arith, d.inside, c.long));
+        yes = λ k t x v y. let u = c.yes at g x v y in
+            rw (← same_Some m k t, mq, mp) (carried n x a' q at w a'' u.0 (omega (arith, z.1, c.long)) z.0 u.1 d.width d.moved d.long);
+        no = λ t. absurd (none-some m (sym t));
       }
 
 -- rewrite_from
@@ -149,36 +165,37 @@ module _ (n : ℕ) (template : List ℕ) (tlen : ℕ) (shapes : List ℕ) (from 
   turn-start l = record { order = omega arith; inside = l; long = refl; room = refl; going = λ x w y. y }
 
   module _ (a filled : List ℕ) (q p : ℕ) (t : Turning n template tlen shapes from first work a filled q p) where
-    pub turn_end : length a ≤ p → Ended n template tlen shapes from first a (record { fits = true; len = q })
+    pub turn_end : length a ≤ p → Ended n template tlen shapes from first a (Some q)
     turn_end l =
         record {
           long = t.long;
-          within = omega (arith, t.order, t.inside, t.long);
-          replaced = λ x w y. all_done n x a q p (record { fits = true; len = q }) (t.going x w y) l refl refl;
+          within = λ len e. let k = same_Some q len e in omega (arith, t.order, t.inside, t.long);
+          replaced = λ x w y. all_done n x a q p (t.going x w y) l;
         }
 
-    module _ (a' : List ℕ) (r : Moved) (c : Turned n template tlen shapes q p a a' r) where
-      pub turn-over : r.fits ≡ false → Ended n template tlen shapes from first a' (record { fits = false; len = 0 })
-      turn-over g =
-          record {
+    module _ (a' : List ℕ) (r : Option Moved) (c : Turned n template tlen shapes q p a a' r) where
+      pub turn-over : r ≡ None → (r' : Option ℕ) → r' ≡ None → Ended n template tlen shapes from first a' r'
+      turn-over g r' e =
+          rw e
+          (record {
             long = c.long ∙ t.long;
-            within = omega arith;
-            replaced = λ x w y. over_done n x a' (length a) (record { fits = false; len = 0 }) (c.no g x w (t.going x w y)) c.long refl;
-          }
+            within = λ len k. absurd (none-some len k);
+            replaced = λ x w y. over_done n x a' (length a) (c.no g x w (t.going x w y)) c.long;
+          })
 
-      pub turn_on : (filled' : List ℕ) → r.fits ≡ true → length filled' ≡ length filled → Turning n template tlen shapes from first work a' filled' r.q r.p
-      turn_on filled' g l =
-          let z = c.room g in
+      pub turn_on : (filled' : List ℕ) (m : Moved) → r ≡ Some m → length filled' ≡ length filled → Turning n template tlen shapes from first work a' filled' m.q m.p
+      turn_on filled' m g l =
+          let z = c.room m g in
           record {
             order = z.1;
             inside = omega (arith, z.2, c.long);
             long = c.long ∙ t.long;
             room = l ∙ t.room;
-            going = λ x v y. c.yes g x v (t.going x v y);
+            going = λ x v y. c.yes m g x v (t.going x v y);
           }
 
-      pub turn-less : r.fits ≡ true → p < length a → length a' - r.q < length a - q
-      turn-less g l = let z = c.room g in omega (arith, z.0, z.1, z.2, c.long, t.order)
+      pub turn-less : (m : Moved) → r ≡ Some m → p < length a → length a' - m.q < length a - q
+      turn-less m g l = let z = c.room m g in omega (arith, z.0, z.1, z.2, c.long, t.order)
 
 -- to_right
 pub right-done : (a : List ℕ) (len : ℕ) (b b' a' : List ℕ) → len ≤ length a → length a ≤ length b → b' ≡ paste b 0 a len → a' ≡ paste a (length a - len) b' len
@@ -193,11 +210,11 @@ right-done a len b b' a' l m e f =
     }
 
 -- rewrite
-pub rewrite-done : (a : List ℕ) (len n : ℕ) (template : List ℕ) (tlen : ℕ) (shapes a' a'' : List ℕ) (from : ℕ) (r : Filled) → AtRight a len a' from
+pub rewrite-done : (a : List ℕ) (len n : ℕ) (template : List ℕ) (tlen : ℕ) (shapes a' a'' : List ℕ) (from : ℕ) (r : Option ℕ) → AtRight a len a' from
     → Ended n template tlen shapes from a' a'' r → Rewritten a len n template tlen shapes a'' r
 rewrite-done a len n template tlen shapes a' a'' from r t d =
     record {
       long = d.long ∙ t.long;
-      within = omega (arith, d.within, t.long);
+      within = λ size k. omega (arith, d.within size k, t.long);
       replaced = λ x z. d.replaced x z.templated (t.going n template tlen shapes x z);
     }

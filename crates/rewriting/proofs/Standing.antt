@@ -16,13 +16,14 @@ use Rattle.strings.proofs.Standing.{laid-spelt}
 use Rattle.strings.proofs.Written.{paste-above, paste-below, paste-spelt, spelt-same, at_moved}
 use Rattle.strings.specs.Laid.{Laid}
 use Rattle.strings.specs.Read.{far, is_far, string_at, symbol_at, width_of}
-use Rattle.strings.specs.declared.Filled.{Filled}
+use Rattle.std.specs.Prelude.{None, Option, Some}
+use Rattle.std.proofs.lemmas.Option.{none-some, same_Some}
 use Rattle.symbols.proofs.Filling.{Given, fill-term}
 use Rattle.symbols.proofs.Sizes.{any_left, any-right, size-append, size-first}
 use Rattle.symbols.specs.Spell.{alone_shape, masked, max_params, occurring, shape_of, spell}
 use Rattle.symbols.specs.Symbol.{Spelt, Symbol, begin, bytes_of, symbol_bytes, call, calls, code, end, fill, is_wide, name, number, par, sees, size, var, wide}
 use Rattle.theory.proofs.Lists.{never}
-use Rattle.theory.specs.Expand.{nothing, put_in}
+use Rattle.theory.specs.Expand.{put_in}
 use Rattle.theory.specs.Level.{binds_in, plain}
 use Rattle.theory.specs.Lists.{any}
 use Rattle.theory.specs.Term.{Term}
@@ -182,7 +183,7 @@ module _ (n : ℕ) (template : List ℕ) (tlen : ℕ) (shapes : List ℕ) (x : T
       (none_both is_far (call n ∷ []) f.more (ap far (sym whole) ∙ near.1)).1
 
   -- The text with the arguments put in, written so that it ends where the arguments end.
-  module _ (y : Going n x a q p) (l : p < length a) (c : calls (eqb n) (symbol_at a p) ≡ true) (roomy : List ℕ) (filled : List ℕ) (r : Filled)
+  module _ (y : Going n x a q p) (l : p < length a) (c : calls (eqb n) (symbol_at a p) ≡ true) (roomy : List ℕ) (filled : List ℕ) (r : Option ℕ)
       (laid : Laid (fill (arguments_of a shapes (get_or shapes n 0) (p + 2)) 0 (string_at template 0 tlen)) 0 roomy filled r) where
     ended : (o : Opened n template tlen shapes x a p y.gs) → size (spell x.sense.shape o.kept.term)
         ≡ q + size (fill (arguments_of a shapes (get_or shapes n 0) (p + 2)) 0 (string_at template 0 tlen)) + size o.ks
@@ -197,7 +198,7 @@ module _ (n : ℕ) (template : List ℕ) (tlen : ℕ) (shapes : List ℕ) (x : T
     str = fill (arguments_of a shapes (get_or shapes n 0) (p + 2)) 0 (string_at template 0 tlen)
 
     -- there was no room for it, or an index is too wide
-    pub no-fill : length a ≤ length roomy → r.fits ≡ false → Over x (length a)
+    pub no-fill : length a ≤ length roomy → r ≡ None → Over x (length a)
     unfolding str
     no-fill b f = record { kept = (opened y l c).kept; over = go (laid.no f) }
       where
@@ -219,22 +220,22 @@ module _ (n : ℕ) (template : List ℕ) (tlen : ℕ) (shapes : List ℕ) (x : T
         let u : size (b.first ∷ []) ≡ width_of b.first + 0 = length-append (symbol_bytes b.first) [] in
         omega arith
 
-    module _ (f : r.fits ≡ true) (a' : List ℕ) (r' : Filled) (e : Ending q filled r.len (last_from a shapes max_params (get_or shapes n 0) (p + 2)) a a' r') where
+    module _ (m : ℕ) (f : r ≡ Some m) (a' : List ℕ) (r' : Option ℕ) (e : Ending q filled m (last_from a shapes max_params (get_or shapes n 0) (p + 2)) a a' r') where
       -- or none between the two parts
-      pub no_room : r'.fits ≡ false → Over x (length a)
+      pub no_room : r' ≡ None → Over x (length a)
       unfolding str
       no_room g = record { kept = (opened y l c).kept; over = inl (go (e.no g)) }
         where
           o : Opened n template tlen shapes x a p y.gs
           o = opened y l c
 
-          go : (r.len ≡ 0) ⊎ (min (last_from a shapes max_params (get_or shapes n 0) (p + 2)) (length a) < q + r.len) → length a < size (spell x.sense.shape o.kept.term)
-          go (inl k) = absurd (omega (arith, long o, (laid.yes f).0))
-          go (inr k) = omega (arith, ended o, k, o.left.1, (laid.yes f).0)
+          go : (m ≡ 0) ⊎ (min (last_from a shapes max_params (get_or shapes n 0) (p + 2)) (length a) < q + m) → length a < size (spell x.sense.shape o.kept.term)
+          go (inl k) = absurd (omega (arith, long o, (laid.yes m f).0))
+          go (inr k) = omega (arith, ended o, k, o.left.1, (laid.yes m f).0)
 
-      pub replaced-going : r'.fits ≡ true → Going n x a' q r'.len × (calls (eqb n) (symbol_at a' r'.len) ≡ false)
+      pub replaced-going : (j : ℕ) → r' ≡ Some j → Going n x a' q j × (calls (eqb n) (symbol_at a' j) ≡ false)
       unfolding str
-      replaced-going g = (
+      replaced-going j g = (
         record {
           kept = o.kept;
           gs = y.gs;
@@ -242,7 +243,7 @@ module _ (n : ℕ) (template : List ℕ) (tlen : ℕ) (shapes : List ℕ) (x : T
           split = o.spelt;
           clear = y.clear;
           done = done;
-          left = subst (λ (z : ℕ). Spelt a' r'.len (str ++ o.ks) z) (sym e.long) rest;
+          left = subst (λ (z : ℕ). Spelt a' j (str ++ o.ks) z) (sym e.long) rest;
         },
         other,
       )
@@ -253,47 +254,47 @@ module _ (n : ℕ) (template : List ℕ) (tlen : ℕ) (shapes : List ℕ) (x : T
           E : ℕ
           E = last_from a shapes max_params (get_or shapes n 0) (p + 2)
 
-          len : r.len ≡ 0 + size str
-          len = (laid.yes f).0
+          len : m ≡ 0 + size str
+          len = (laid.yes m f).0
 
           whole : length a ≡ E + size o.ks
           whole = o.left.1
 
-          at : (0 < r.len) × (q + r.len ≤ min E (length a)) × (r'.len ≡ min E (length a) - r.len) × (a' ≡ paste a r'.len filled r.len)
-          at = e.yes g
+          at : (0 < m) × (q + m ≤ min E (length a)) × (j ≡ min E (length a) - m) × (a' ≡ paste a j filled m)
+          at = e.yes j g
 
-          in-a : r'.len + r.len ≤ length a
+          in-a : j + m ≤ length a
           in-a = omega (arith, at.1, at.2)
 
-          in-filled : r.len ≤ length filled
-          in-filled = omega (arith, laid.long, laid.within)
+          in-filled : m ≤ length filled
+          in-filled = omega (arith, laid.long, laid.within m f)
 
           done : Spelt a' 0 y.gs q
           done =
               spelt-same y.gs a a' 0 q
-              (λ i u v. ap (λ (z : List ℕ). get_or z i 0) at.3 ∙ paste-below a r'.len filled r.len in-a in-filled i (omega (arith, at.1, at.2)))
+              (λ i u v. ap (λ (z : List ℕ). get_or z i 0) at.3 ∙ paste-below a j filled m in-a in-filled i (omega (arith, at.1, at.2)))
               y.done
 
-          middle : Spelt a' r'.len str (r'.len + r.len)
+          middle : Spelt a' j str (j + m)
           middle =
-              subst (λ (z : List ℕ). Spelt z r'.len str (r'.len + r.len)) (sym at.3)
-              (paste-spelt a r'.len filled r.len in-a in-filled str (laid-spelt str 0 roomy filled r laid f))
+              subst (λ (z : List ℕ). Spelt z j str (j + m)) (sym at.3)
+              (paste-spelt a j filled m in-a in-filled str (laid-spelt str 0 roomy filled r laid m f))
 
           after-it : Spelt a' E o.ks (length a)
           after-it =
               spelt-same o.ks a a' E (length a)
-              (λ i u v. ap (λ (z : List ℕ). get_or z i 0) at.3 ∙ paste-above a r'.len filled r.len in-a in-filled i (omega (arith, at.1, at.2)))
+              (λ i u v. ap (λ (z : List ℕ). get_or z i 0) at.3 ∙ paste-above a j filled m in-a in-filled i (omega (arith, at.1, at.2)))
               o.left
 
-          rest : Spelt a' r'.len (str ++ o.ks) (length a)
+          rest : Spelt a' j (str ++ o.ks) (length a)
           rest =
-              let z : r'.len + r.len ≡ E = omega (arith, at.1, at.2, whole) in
-              spelt-join a' r'.len E (length a) str o.ks (subst (λ (i : ℕ). Spelt a' r'.len str i) z middle) after-it
+              let z : j + m ≡ E = omega (arith, at.1, at.2, whole) in
+              spelt-join a' j E (length a) str o.ks (subst (λ (i : ℕ). Spelt a' j str i) z middle) after-it
 
-          other : calls (eqb n) (symbol_at a' r'.len) ≡ false
+          other : calls (eqb n) (symbol_at a' j) ≡ false
           other =
               let near = none_both is_far y.gs (str ++ o.ks) (ap far (sym o.spelt) ∙ o.kept.near) in
-              let fr : Front a' r'.len (str ++ o.ks) (length a) = front a' r'.len (str ++ o.ks) (length a) rest (omega (arith, at.0, at.1, at.2)) near.1 in
+              let fr : Front a' j (str ++ o.ks) (length a) = front a' j (str ++ o.ks) (length a) rest (omega (arith, at.0, at.1, at.2)) near.1 in
               ap (calls (eqb n)) fr.reads ∙ begin-other n str o.ks fr.more fr.first o.begins fr.whole
 
 -- One symbol goes from the rest to what is done.
@@ -352,8 +353,8 @@ no_size (g ∷ gs) e =
     absurd (omega arith)
 
 -- nothing is left
-pub all_done : (n : ℕ) (x : Task) (a : List ℕ) (q p : ℕ) (r : Filled) → Going n x a q p → length a ≤ p → r.fits ≡ true → r.len ≡ q → Replaced n x a r
-all_done n x a q p r y l t e =
+pub all_done : (n : ℕ) (x : Task) (a : List ℕ) (q p : ℕ) → Going n x a q p → length a ≤ p → Replaced n x a (Some q)
+all_done n x a q p y l =
     record {
       term = y.kept.term;
       same = y.kept.same;
@@ -361,16 +362,16 @@ all_done n x a q p r y l t e =
       others = y.kept.others;
       near = y.kept.near;
       shape = y.kept.shape;
-      yes = λ _. (subst (λ (z : List Symbol). Spelt a 0 z r.len) (sym whole) (subst (λ (z : ℕ). Spelt a 0 y.gs z) (sym e) y.done), ap (any (calls (eqb n))) whole ∙ y.clear);
-      no = λ f. never (sym t ∙ f);
+      yes = λ m e. (subst (λ (z : List Symbol). Spelt a 0 z m) (sym whole) (subst (λ (z : ℕ). Spelt a 0 y.gs z) (same_Some q m e) y.done), ap (any (calls (eqb n))) whole ∙ y.clear);
+      no = λ e. absurd (none-some q (sym e));
     }
   where
     whole : spell x.sense.shape y.kept.term ≡ y.gs
     whole =
         y.split ∙ ap (λ (z : List Symbol). y.gs ++ z) (no_size y.hs (omega (arith, y.left.1))) ∙ append-nil y.gs
 
-pub over_done : (n : ℕ) (x : Task) (a : List ℕ) (room : ℕ) (r : Filled) → Over x room → length a ≡ room → r.fits ≡ false → Replaced n x a r
-over_done n x a room r o l f =
+pub over_done : (n : ℕ) (x : Task) (a : List ℕ) (room : ℕ) → Over x room → length a ≡ room → Replaced n x a None
+over_done n x a room o l =
     record {
       term = o.kept.term;
       same = o.kept.same;
@@ -378,7 +379,7 @@ over_done n x a room r o l f =
       others = o.kept.others;
       near = o.kept.near;
       shape = o.kept.shape;
-      yes = λ t. never (sym t ∙ f);
+      yes = λ m e. absurd (none-some m e);
       no = λ _. rw l o.over;
     }
 

@@ -65,10 +65,6 @@ row_number c = number_of (row c)
 unfoldable pub row_column : List ℕ
 row_column = column row_number 0 row_count
 
--- how many rows are kept
-abbrev pub kept_count : ℕ
-kept_count = 26
-
 -- the rows that are kept: codes 104 to 127, then 140 and 141
 abbrev pub kept_rows : List ℕ
 kept_rows = column row_number 104 24 ++ column row_number 140 2
@@ -80,11 +76,7 @@ arity_in h = cond (ltb (h / kind_size) 3) (h / form_size % 4) no_code
 unfoldable pub binder_in : ℕ → ℕ
 binder_in h = cond (eqb (h / kind_size) 0) 0 (h / form_size % 4)
 
--- a list with f i, f (i + 1) and so on at the n places from i on
-abbrev pub put_in : (ℕ → ℕ) → ℕ → ℕ → List ℕ → List ℕ
-put_in f i zero xs = xs
-put_in f i (suc n) xs = put_in f (i + 1) n (set xs i (f i))
-
 -- a list with x at the n places from i on
-abbrev pub run_in : ℕ → ℕ → ℕ → List ℕ → List ℕ
-run_in x i n xs = put_in (λ _. x) i n xs
+abbrev pub run_in : {A : Type 0} → A → ℕ → ℕ → List A → List A
+run_in x i zero xs = xs
+run_in x i (suc n) xs = run_in x (i + 1) n (set xs i x)

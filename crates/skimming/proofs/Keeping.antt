@@ -5,17 +5,17 @@ use mathlib.Core.List.{List}
 use mathlib.Core.Path.{◌∙◌, ◌≡◌, ap, ap₂, refl, subst, sym}
 use Prim.Native.Nat.{ℕ, ◌+◌, ◌-◌, ◌<◌, ◌≤◌}
 use lib.Dec.{leb}
+use Rattle.std.specs.Prelude.{None, Some, is_none, Option}
 use Rattle.limits.specs.Limits.{max_arity}
 use Rattle.tokens.specs.Expr.{Expr, Found, Founds, after, before, expr_at, found, founds, none, nones, over, several}
 use Rattle.tokens.specs.Fold.{Algebra, Worth, fold}
 use Rattle.tokens.specs.Limit.{counts_kept, kept_of}
-use Rattle.tokens.specs.Token.{arguments_of, is_token, token_at, width_of, written_of}
-use Rattle.tokens.specs.declared.Limit.TheVariants.{Kept as Ends, Passed}
+use Rattle.tokens.specs.Token.{arguments_of, token_at, width_of, written_of}
 use Rattle.tokens.specs.declared.Token.{Token}
 use Rattle.tokens.proofs.Folding.{Scoped}
 use Rattle.tokens.proofs.Places.{never, written_count}
 use Rattle.tokens.proofs.Reading.{expr-more, expr-none, expr-zero}
-use Rattle.skimming.specs.Kept.{KeptWorth, KeptWorths, is_passed}
+use Rattle.skimming.specs.Kept.{KeptWorth, KeptWorths}
 
 not_so : {A : Type 0} (b : Bool) → b ≡ false → b ≡ true → A
 not_so b p q = never (sym p ∙ q)
@@ -43,40 +43,35 @@ module _ {E R A : Type 0} (G : Algebra E R A) where
     unfolding KeptWorth
     kept-limit z h = rw (expr-zero n s at z) h
 
-    module _ (t : Token) (i : Bool) (et : t ≡ token_at s at) (ei : i ≡ is_token t) where
-      is-token : is_token (token_at s at) ≡ i
-      is-token = ap is_token (sym et) ∙ sym ei
-
-      pub kept-nothing : i ≡ false → b ≡ false → KeptWorth G e (expr_at n s at) b v x
+    module _ (o : Option Token) (et : o ≡ token_at s at) where
+      pub kept-nothing : o ≡ None → b ≡ false → KeptWorth G e (expr_at n s at) b v x
       unfolding KeptWorth
-      kept-nothing z h = rw (expr-none n s at (is-token ∙ z)) h
+      kept-nothing z h = rw (expr-none n s at (sym et ∙ z)) h
 
-      module _ (there : i ≡ true) (deep : n ≡ 0 → ⊥) where
+      module _ (t : Token) (there : o ≡ Some t) (deep : n ≡ 0 → ⊥) where
         abbrev args : Founds
-        args = several (expr_at (n - 1) s) (at + width_of (token_at s at)) (arguments_of (token_at s at))
+        args = several (expr_at (n - 1) s) (at + width_of t) (arguments_of t)
 
-        this : expr_at n s at ≡ over at (token_at s at) args
-        this = expr-more n s at deep (is-token ∙ there)
+        this : expr_at n s at ≡ over at t args
+        this = expr-more n s at t deep (sym et ∙ there)
 
         module _ (k : ℕ) (ek : k ≡ arguments_of t) where
-          written : leb (written_of (token_at s at)) max_arity ≡ leb k max_arity
-          written = written_count s at ∙ ap (λ (y : Token). leb (arguments_of y) max_arity) (sym et) ∙ ap (λ (y : ℕ). leb y max_arity) (sym ek)
+          written : leb (written_of t) max_arity ≡ leb k max_arity
+          written = written_count s at t (sym et ∙ there) ∙ ap (λ (y : ℕ). leb y max_arity) (sym ek)
 
           pub kept-count : max_arity < k → b ≡ false → KeptWorth G e (expr_at n s at) b v x
-          kept-count h z = rw this (over-passed e at (token_at s at) b v x args (written ∙ lt-leb k max_arity h) z)
+          kept-count h z = rw this (over-passed e at t b v x args (written ∙ lt-leb k max_arity h) z)
 
           module _ (w : ℕ) (ew : w ≡ width_of t) (inner : E) (ei' : inner ≡ G.inner t e) (c : Bool) (a : A) (y : ℕ)
               (all : KeptWorths G e inner (several (expr_at (n - 1) s) (at + w) k) c a y) where
-            there-all : KeptWorths G e (G.inner (token_at s at) e) args c a y
-            there-all = rw (ei', ew, ek, et) at all
+            there-all : KeptWorths G e (G.inner t e) args c a y
+            there-all = rw (ei', ew, ek) at all
 
             pub kept-lost : c ≡ false → b ≡ false → KeptWorth G e (expr_at n s at) b v x
-            kept-lost z h = rw this (over-lost e at (token_at s at) b v x args c a y there-all z h)
+            kept-lost z h = rw this (over-lost e at t b v x args c a y there-all z h)
 
             pub kept-token : k ≤ max_arity → c ≡ true → b ≡ true → x ≡ y → v ≡ G.token e at t a → KeptWorth G e (expr_at n s at) b v x
-            kept-token h z q ex hv =
-                rw (this, q, ex)
-                (over-kept e at (token_at s at) true v y args a (written ∙ le-leb k max_arity h) (rw z at there-all) (hv ∙ ap (λ (u : Token). G.token e at u a) et))
+            kept-token h z q ex hv = rw (this, q, ex) (over-kept e at t true v y args a (written ∙ le-leb k max_arity h) (rw z at there-all) hv)
 
   -- argument lists
   module _ (outer last : E) where
@@ -132,11 +127,11 @@ module _ {E R A : Type 0} (G : Algebra E R A) where
   kept-worth e (found t n) b v x (p, q) h = q h
   kept-worth e none b v x p h = tt
 
-  pub kept-passed : (e : E) (y : Found) (b : Bool) (v : R) (x : ℕ) → KeptWorth G e y b v x → is_passed (kept_of y) ≡ not b
+  pub kept-passed : (e : E) (y : Found) (b : Bool) (v : R) (x : ℕ) → KeptWorth G e y b v x → is_none (kept_of y) ≡ not b
   unfolding KeptWorth
   kept-passed e (found t n) b v x (p, q) = rw (← p) (go b)
     where
-      go : (b : Bool) → is_passed (cond b (Ends n) Passed) ≡ not b
+      go : (b : Bool) → is_none (cond b (Some n) None) ≡ not b
       go true = refl
       go false = refl
   kept-passed e none b v x p = rw p refl

@@ -3,12 +3,6 @@ use Rattle.std.specs.Prelude.{Bool, false, true, ◌≡◌, ℕ}
 use Rattle.tokens.specs.Expr.{Found, Founds, found, founds, none, nones}
 use Rattle.tokens.specs.Fold.{Algebra, fold, folds}
 use Rattle.tokens.specs.Limit.{counts_kept, counts_kepts}
-use Rattle.tokens.specs.declared.Limit.{Limit}
-use Rattle.tokens.specs.declared.Limit.TheVariants.{Kept, Passed}
-
-abbrev pub is_passed : Limit → Bool
-is_passed (Kept e) = false
-is_passed Passed = true
 
 -- Whether what is found keeps the limits; and if it does, v is what it is worth and x the position after it.
 module _ {E R A : Type 0} where

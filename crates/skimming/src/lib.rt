@@ -1,22 +1,21 @@
 // Limits and names of a query's expression, by one walk that looks for no level.
 #![tactic(auto)]
 
-ghost use Rattle.std.specs.Prelude.{◌≡◌, false, ℕ, ◌+◌, ◌-◌, ◌<◌, ◌≤◌, leb};
+ghost use Rattle.std.specs.Prelude.{◌≡◌, ℕ, ◌+◌, ◌-◌, ◌<◌, ◌≤◌, leb};
 ghost use Rattle.limits.specs.Limits.{max_arity};
-ghost use Rattle.rows.specs.Numbers.{row_column, row_number};
+ghost use Rattle.rows.specs.Numbers.{row_number};
 ghost use Rattle.tokens.specs.Expr.{expr_at, several};
 ghost use Rattle.tokens.specs.Fold.{under_of};
 ghost use Rattle.tokens.specs.declared.Token.TheVariants.{BuiltIn};
 ghost use Rattle.context.specs.Parts.{part};
 ghost use Rattle.resolve.specs.Walk.{inside, word_count};
 ghost use Rattle.tables.specs.Serves.{Serves};
-ghost use Rattle.skimming.specs.Skims.{Heads, Leaf, Skims, SkimsAll, Steps};
-ghost use Rattle.store.specs.Store.{held};
+ghost use Rattle.skimming.specs.Skims.{AllSkimmed, Heads, Leaf, Skimmed, Steps};
 
 use limits::Limits;
 use resolve::steps::{both, nothing, with_args};
 use resolve::{Ask, Looked};
-use rows::Rows;
+use rows::{RowColumn, Rows};
 use store::Store;
 use tables::names;
 use tables::token::{arguments_in, token_in};
@@ -48,18 +47,10 @@ pub struct Args {
     pub within: usize,
 }
 
-// Whether an expression keeps the limits; if it does, its causes 9 and 10 and the position after it.
-#[derive(Clone, Copy)]
-pub struct Skimmed {
-    pub kept: bool,
-    pub looked: Looked,
-}
-
-// What a token says where it stands: whether it keeps the limits, how many arguments follow, how many variables are bound in the last of them,
-// and what is known after it.
+// What a token that keeps the limits says where it stands: how many arguments follow, how many variables are bound in the last of them, and what
+// is known after it.
 #[derive(Clone, Copy)]
 pub struct Step {
-    pub kept: bool,
     pub count: u8,
     pub inner: usize,
     pub looked: Looked,
@@ -78,8 +69,8 @@ fn bind(r: u16, bound: usize) -> usize
 }
 
 // How many variables are bound in a token's last argument.
-pub fn bound_inside(column: &[u16], t: Token, bound: usize) -> usize
-    requires { (bound < word_count) × (column.now ≡ row_column) }
+pub fn bound_inside(column: &RowColumn, t: Token, bound: usize) -> usize
+    requires { bound < word_count }
     ensures { result ≡ inside t bound }
 {
     match t {
@@ -87,9 +78,8 @@ pub fn bound_inside(column: &[u16], t: Token, bound: usize) -> usize
         Token::Bound(_) => bound,
         Token::Name(_, _) => bound,
         Token::InstanceOperator(_, _, _) => bound,
-        Token::BuiltIn(code) => bind(rows::row_in(column, code), bound),
+        Token::BuiltIn(code) => bind(column.row(code), bound),
         Token::Literal(_) => bound,
-        Token::NoToken => bound,
     }
 }
 
@@ -98,28 +88,6 @@ fn under(k: u8, outer: usize, last: usize) -> usize
     ensures { result ≡ under_of k outer last }
 {
     if k == 1 { last } else { outer }
-}
-
-// Where a limit is passed.
-fn stopped(at: usize) -> Skimmed
-    ensures { result.kept ≡ false }
-{
-    Skimmed {
-        kept: false,
-        looked: nothing(at),
-    }
-}
-
-// A token that passes a limit, or none.
-fn no_step(bound: usize, a: Looked) -> Step
-    ensures { (result.kept ≡ false) × (result.count ≡ 0) × (result.inner ≡ bound) }
-{
-    Step {
-        kept: false,
-        count: 0,
-        inner: bound,
-        looked: a,
-    }
 }
 
 // A parameter, so many being known.
@@ -132,7 +100,6 @@ fn parameter_step(bound: usize, next: usize, params: usize, i: u8, a: Looked) ->
         miscounted: false,
     };
     Step {
-        kept: true,
         count: 0,
         inner: bound,
         looked: both(a, b),
@@ -151,16 +118,9 @@ fn moved(a: Looked, next: usize) -> Looked
 }
 
 // What is known after a token, from what is known before it.
-fn head(
-    tables: &[u8],
-    store: &[u16; Store::LENGTH],
-    p: ContextAt,
-    bound: usize,
-    t: Token,
-    a: Looked,
-) -> Looked
-    requires { Serves (held store.now) tables.now p.from p.end }
-    ensures { Heads (held store.now).names (held store.now).facts (part (held store.now).contexts p.from (p.end - p.from)) p.params bound t a result }
+fn head(tables: &[u8], store: &Store, p: ContextAt, bound: usize, t: Token, a: Looked) -> Looked
+    requires { Serves store.now tables.now p.from p.end }
+    ensures { Heads store.now.names store.now.facts (part store.now.contexts p.from (p.end - p.from)) p.params bound t a result }
 {
     let l = names::look(store, tables, p.from, p.end, t);
     let ask = Ask {
@@ -171,50 +131,46 @@ fn head(
     with_args(t, l, ask, a)
 }
 
-// The token at the position that is reached, of whatever kind.
+// The token at the position that is reached, of whatever kind; none where a limit is passed.
 fn any_step(
     s: &[u8],
-    column: &[u16],
+    column: &RowColumn,
     tables: &[u8],
-    store: &[u16; Store::LENGTH],
+    store: &Store,
     p: ContextAt,
     bound: usize,
     a: Looked,
-) -> Step
-    requires { (column.now ≡ row_column) × Serves (held store.now) tables.now p.from p.end × (bound < word_count) }
-    ensures { Steps (held store.now).names (held store.now).facts (part (held store.now).contexts p.from (p.end - p.from)) p.params bound s.now a result }
+) -> Option<Step>
+    requires { Serves store.now tables.now p.from p.end × (bound < word_count) }
+    ensures { Steps store.now.names store.now.facts (part store.now.contexts p.from (p.end - p.from)) p.params bound s.now a result }
 {
     let at = a.next;
-    let t = token_in(s, column, at);
-    if tokens::is_token(t) {
-        let k = arguments_in(column, t);
-        if (Limits::ARITY as u8) < k {
-            return no_step(bound, a);
-        }
-        let b = moved(a, at + tokens::width(t));
-        let looked = head(tables, store, p, bound, t, b);
-        return Step {
-            kept: true,
-            count: k,
-            inner: bound_inside(column, t, bound),
-            looked,
-        };
+    let t = token_in(s, column, at)?;
+    let k = arguments_in(column, t);
+    if (Limits::ARITY as u8) < k {
+        return None;
     }
-    no_step(bound, a)
+    let b = moved(a, at + tokens::width(t));
+    let looked = head(tables, store, p, bound, t, b);
+    Some(Step {
+        count: k,
+        inner: bound_inside(column, t, bound),
+        looked,
+    })
 }
 
 // The same, quicker at a parameter and at a built-in.
 fn next_step(
     s: &[u8],
-    column: &[u16],
+    column: &RowColumn,
     tables: &[u8],
-    store: &[u16; Store::LENGTH],
+    store: &Store,
     p: ContextAt,
     bound: usize,
     a: Looked,
-) -> Step
-    requires { (column.now ≡ row_column) × Serves (held store.now) tables.now p.from p.end × (bound < word_count) }
-    ensures { Steps (held store.now).names (held store.now).facts (part (held store.now).contexts p.from (p.end - p.from)) p.params bound s.now a result }
+) -> Option<Step>
+    requires { Serves store.now tables.now p.from p.end × (bound < word_count) }
+    ensures { Steps store.now.names store.now.facts (part store.now.contexts p.from (p.end - p.from)) p.params bound s.now a result }
 {
     let at = a.next;
     if at < s.len() {
@@ -222,37 +178,37 @@ fn next_step(
             let x = s[at + 1];
             let tag = s[at];
             if tag == 0 {
-                return parameter_step(bound, at + 2, p.params, x, a);
+                return Some(parameter_step(bound, at + 2, p.params, x, a));
             }
             if tag == 4 {
-                let r = rows::row_in(column, x);
+                let r = column.row(x);
                 let k = rows::arity_of(r);
                 if k == Rows::NO_CODE {
-                    return no_step(bound, a);
+                    return None;
                 }
-                return Step {
-                    kept: true,
+                return Some(Step {
                     count: k,
                     inner: bind(r, bound),
                     looked: moved(a, at + 2),
-                };
+                });
             }
         }
     }
     any_step(s, column, tables, store, p, bound, a)
 }
 
-// At most eight arguments. Where one is left, its own arguments are what is left.
+// Causes 9 and 10 of at most eight arguments and the position after them; none where a limit is passed. Where one is left, its own arguments
+// are what is left.
 fn skim_args(
     s: &[u8],
-    column: &[u16],
+    column: &RowColumn,
     tables: &[u8],
-    store: &[u16; Store::LENGTH],
+    store: &Store,
     p: ContextAt,
     g: Args,
-) -> Skimmed
-    requires { (column.now ≡ row_column) × Serves (held store.now) tables.now p.from p.end × (g.around + g.nest < word_count) × (g.within + g.nest < word_count) × (g.count ≤ max_arity) }
-    ensures { SkimsAll (held store.now).names (held store.now).facts (part (held store.now).contexts p.from (p.end - p.from)) p.params g.around g.within (several (expr_at g.nest s.now) g.at g.count) result.kept result.looked }
+) -> Option<Looked>
+    requires { Serves store.now tables.now p.from p.end × (g.around + g.nest < word_count) × (g.within + g.nest < word_count) × (g.count ≤ max_arity) }
+    ensures { AllSkimmed store.now.names store.now.facts (part store.now.contexts p.from (p.end - p.from)) p.params g.around g.within (several (expr_at g.nest s.now) g.at g.count) result }
 {
     let mut a = nothing(g.at);
     let mut k = g.count;
@@ -261,57 +217,47 @@ fn skim_args(
     let mut last = g.within;
     while k != 0 {
         if nest == 0 {
-            return stopped(g.at);
+            return None;
         }
         let e = under(k, outer, last);
-        let t = next_step(s, column, tables, store, p, e, a);
-        if t.kept {
-            a = t.looked;
-            if t.count == 0 {
-                k -= 1;
-                continue;
-            }
-            if k == 1 {
-                k = t.count;
-                nest -= 1;
-                outer = e;
-                last = t.inner;
-                continue;
-            }
-            let inner = Args {
-                at: a.next,
-                count: t.count,
-                nest: nest - 1,
-                around: e,
-                within: t.inner,
-            };
-            let b = skim_args(s, column, tables, store, p, inner);
-            if b.kept {
-                a = both(a, b.looked);
-                k -= 1;
-                continue;
-            }
-            return stopped(g.at);
+        let t = next_step(s, column, tables, store, p, e, a)?;
+        a = t.looked;
+        if t.count == 0 {
+            k -= 1;
+            continue;
         }
-        return stopped(g.at);
+        if k == 1 {
+            k = t.count;
+            nest -= 1;
+            outer = e;
+            last = t.inner;
+            continue;
+        }
+        let inner = Args {
+            at: a.next,
+            count: t.count,
+            nest: nest - 1,
+            around: e,
+            within: t.inner,
+        };
+        let b = skim_args(s, column, tables, store, p, inner)?;
+        a = both(a, b);
+        k -= 1;
     }
-    Skimmed {
-        kept: true,
-        looked: a,
-    }
+    Some(a)
 }
 
-// The expression at a place.
+// The expression at a place, likewise.
 pub fn skim_expr(
     s: &[u8],
-    column: &[u16],
+    column: &RowColumn,
     tables: &[u8],
-    store: &[u16; Store::LENGTH],
+    store: &Store,
     p: ContextAt,
     e: Spot,
-) -> Skimmed
-    requires { (column.now ≡ row_column) × Serves (held store.now) tables.now p.from p.end × (e.bound + e.nest < word_count) }
-    ensures { Skims (held store.now).names (held store.now).facts (part (held store.now).contexts p.from (p.end - p.from)) p.params e.bound (expr_at e.nest s.now e.at) result.kept result.looked }
+) -> Option<Looked>
+    requires { Serves store.now tables.now p.from p.end × (e.bound + e.nest < word_count) }
+    ensures { Skimmed store.now.names store.now.facts (part store.now.contexts p.from (p.end - p.from)) p.params e.bound (expr_at e.nest s.now e.at) result }
 {
     let g = Args {
         at: e.at,

@@ -14,7 +14,7 @@ use Rattle.theory.specs.Term.{Term, Terms, param}
 use Rattle.theory.specs.Tree.{◌▹◌, count, join, node, ⟨⟩}
 use Rattle.tokens.specs.Expr.{Expr, Exprs}
 use Rattle.tokens.specs.declared.Token.{Token}
-use Rattle.tokens.specs.declared.Token.TheVariants.{BuiltIn, Bound, InstanceOperator, Literal, Name, NoToken, Parameter}
+use Rattle.tokens.specs.declared.Token.TheVariants.{BuiltIn, Bound, InstanceOperator, Literal, Name, Parameter}
 use Rattle.texts.specs.Noted.{is_name}
 use Rattle.texts.specs.Text.{Declarations, no_declaration}
 use Rattle.symbols.specs.Symbol.{Symbol, code, name}
@@ -77,7 +77,6 @@ module _ (σ : ℕ → ℕ) where
       same-token at (InstanceOperator i n k) us vs a h = same-named (look at (InstanceOperator i n k)) us vs a (h refl)
       same-token at (BuiltIn c) us vs a h = ap (λ (x : List Symbol). code c ∷ x) (a.plainly (binds_in (code_binder c)))
       same-token at (Literal v) us vs a h = refl
-      same-token at NoToken us vs a h = refl
 
       mutual
         pub same-string : (t : Expr) → LooksBelow (max_definitions + length decls) look t → spell σ (term_in look decls P t) ≡ spell σ (term_in look decls' P t)

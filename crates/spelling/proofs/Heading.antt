@@ -18,7 +18,7 @@ use Rattle.theory.specs.Term.{Terms, variable}
 use Rattle.theory.specs.Tree.{join}
 use Rattle.rows.specs.Rows.{binder_of}
 use Rattle.tokens.specs.declared.Token.{Token}
-use Rattle.tokens.specs.declared.Token.TheVariants.{BuiltIn, Bound, InstanceOperator, Literal, Name, NoToken, Parameter}
+use Rattle.tokens.specs.declared.Token.TheVariants.{BuiltIn, Bound, InstanceOperator, Literal, Name, Parameter}
 use Rattle.texts.specs.Text.{Declarations, no_declaration}
 use Rattle.symbols.specs.Symbol.{Symbol, bytes_of, call, code, name, number, par, var}
 use Rattle.symbols.specs.Spell.{alone_shape, call_head, mask_of, masked, shape_limit, spell}
@@ -191,6 +191,3 @@ module _ (σ : ℕ → ℕ) (decls : Declarations) (level outer : ℕ) (numbers 
 
     pub headed-literal : (v : ℕ) → t ≡ Literal v → Put out q (5 ∷ v / 256 ∷ v % 256 ∷ []) out' p → Headed σ decls (place_of level outer numbers) t r out q out' all m binds q'
     headed-literal v et d = rw et (record { first = number v ∷ []; put = rw ep d; rest = λ at ts y. alone (number v) ts })
-
-    pub headed-none : t ≡ NoToken → Put out q (5 ∷ 0 / 256 ∷ 0 % 256 ∷ []) out' p → Headed σ decls (place_of level outer numbers) t r out q out' all m binds q'
-    headed-none et d = rw et (record { first = number 0 ∷ []; put = rw ep d; rest = λ at ts y. alone (number 0) ts })

@@ -2,22 +2,21 @@
 -- much.
 use mathlib.Core.Bool.{Bool, cond, false, true}
 use mathlib.Core.List.{List, [], ◌++◌, ◌∷◌}
-use mathlib.Core.Path.{◌∙◌, ◌≡◌, ap, refl, subst, sym}
+use mathlib.Core.Path.{◌∙◌, ◌≡◌, ap, refl, subst}
 use Prim.Native.Nat.{ℕ, zero, suc, ◌+◌, ◌-◌, ◌*◌, ◌/◌, ◌%◌, ◌≤◌}
 use native.Mathlib.Omega.{arith}
 use lib.Dec.{eqb, ltb}
 use lib.ListN.{get_or, length, length-append}
 use Rattle.limits.specs.Limits.{max_arity, max_definitions}
-use Rattle.theory.proofs.Lists.{never}
 use Rattle.theory.specs.Expand.{params_from}
 use Rattle.theory.specs.Level.{Binder, binds_in, code_binder, in_body, plain, set_then_body}
 use Rattle.theory.specs.Term.{Term, Terms, param}
 use Rattle.theory.specs.Tree.{◌▹◌, join, node, ⟨⟩}
-use Rattle.tokens.specs.Token.{arguments_of, is_token, token_at, width_of}
+use Rattle.tokens.specs.Token.{arguments_of, token_at, width_of}
 use Rattle.tokens.specs.Expr.{Expr, Exprs, Found, Founds, after, before, expr_at, found, founds, none, nones, over, several}
 use Rattle.tokens.specs.declared.Token.{Token}
-use Rattle.tokens.specs.declared.Token.TheVariants.{BuiltIn, Bound, InstanceOperator, Literal, Name, NoToken, Parameter}
-use Rattle.tokens.proofs.Places.{cases}
+use Rattle.tokens.specs.declared.Token.TheVariants.{BuiltIn, Bound, InstanceOperator, Literal, Name, Parameter}
+use Rattle.tokens.proofs.Reading.{heads}
 use Rattle.texts.specs.Text.{Declarations}
 use Rattle.symbols.specs.Symbol.{Symbol, bytes_of, call, end, par, size}
 use Rattle.symbols.specs.Spell.{alone_shape, bracketed, call_head, mask_of, masked, spell, spells}
@@ -45,48 +44,40 @@ abbrev mutual
   bytes_in_all ⟨⟩ = 0
   bytes_in_all (t ▹ ts) = bytes_in t + bytes_in_all ts
 
-abbrev mutual
-  pub AreTokens : Expr → Type 0
-  AreTokens (node h ts) = (is_token h.token ≡ true) × AllAreTokens ts
-
-  pub AllAreTokens : Exprs → Type 0
-  AllAreTokens ⟨⟩ = Unit {0}
-  AllAreTokens (t ▹ ts) = AreTokens t × AllAreTokens ts
-
 abbrev EndOf : ℕ → Found → Type 0
-EndOf at (found t e) = (e ≡ at + bytes_in t) × AreTokens t
+EndOf at (found t e) = e ≡ at + bytes_in t
 EndOf at none = Unit {0}
 
 abbrev EndsOf : ℕ → Founds → Type 0
-EndsOf at (founds ts e) = (e ≡ at + bytes_in_all ts) × AllAreTokens ts
+EndsOf at (founds ts e) = e ≡ at + bytes_in_all ts
 EndsOf at nones = Unit {0}
 
-end_before : (at e : ℕ) (t : Expr) (g : Founds) → e ≡ at + bytes_in t → AreTokens t → EndsOf e g → EndsOf at (before t g)
-end_before at e t (founds ts e') p a (q, b) = (omega arith, (a, b))
-end_before at e t nones p a b = tt
+end_before : (at e : ℕ) (t : Expr) (g : Founds) → e ≡ at + bytes_in t → EndsOf e g → EndsOf at (before t g)
+end_before at e t (founds ts e') p q = omega arith
+end_before at e t nones p b = tt
 
 end_after : (at : ℕ) (x : Found) (rest : ℕ → Founds) → EndOf at x → ((e : ℕ) → EndsOf e (rest e)) → EndsOf at (after x rest)
-end_after at (found t e) rest (p, a) h = end_before at e t (rest e) p a (h e)
+end_after at (found t e) rest p h = end_before at e t (rest e) p (h e)
 end_after at none rest a h = tt
 
 end-several : (f : ℕ → Found) → ((p : ℕ) → EndOf p (f p)) → (at k : ℕ) → EndsOf at (several f at k)
-end-several f h at zero = (omega arith, tt)
+end-several f h at zero = omega arith
 end-several f h at (suc k) = end_after at (f at) (λ e. several f e k) (h at) (λ e. end-several f h e k)
 
-end-over : (at : ℕ) (t : Token) (g : Founds) → is_token t ≡ true → EndsOf (at + width_of t) g → EndOf at (over at t g)
-end-over at t (founds ts e) i (p, a) = (omega arith, (i, a))
-end-over at t nones i s = tt
+end-over : (at : ℕ) (t : Token) (g : Founds) → EndsOf (at + width_of t) g → EndOf at (over at t g)
+end-over at t (founds ts e) p = omega arith
+end-over at t nones s = tt
 
 end-found : (n : ℕ) (s : List ℕ) (at : ℕ) → EndOf at (expr_at n s at)
 unfolding expr_at
 end-found zero s at = tt
 end-found (suc n) s at =
-    let t = token_at s at in
-    cases (EndOf at) (is_token t)
-    (λ e. end-over at t (several (expr_at n s) (at + width_of t) (arguments_of t)) e (end-several (expr_at n s) (end-found n s) (at + width_of t) (arguments_of t)))
+    let follow : Token → Founds = λ t. several (expr_at n s) (at + width_of t) (arguments_of t) in
+    heads (EndOf at) at (token_at s at) follow
+    (λ t e. end-over at t (follow t) (end-several (expr_at n s) (end-found n s) (at + width_of t) (arguments_of t)))
     (λ e. tt)
 
-pub text-ends : (n : ℕ) (s : List ℕ) (at : ℕ) (t : Expr) (e : ℕ) → expr_at n s at ≡ found t e → (e ≡ at + bytes_in t) × AreTokens t
+pub text-ends : (n : ℕ) (s : List ℕ) (at : ℕ) (t : Expr) (e : ℕ) → expr_at n s at ≡ found t e → e ≡ at + bytes_in t
 text-ends n s at t e p = subst (EndOf at) p (end-found n s at)
 
 -- twice the bytes of an argument list's strings, at most b
@@ -171,33 +162,32 @@ module _ (σ : ℕ → ℕ) where
     implied-short p k r = let f = size-named r (params_from (P.outer + p) k) (4 * k) (params-measured (P.outer + p) k) in omega arith
 
     module _ (look : ℕ → Token → ℕ) where
-      size-token : (at : ℕ) (t : Token) (us : Terms) (w : ℕ) → is_token t ≡ true → Measured σ us w → 2 * size (spell σ (token_in look decls P at t us)) ≤ growth * width_of t + w
-      size-token at (Parameter i) us w h a = omega arith
-      size-token at (Bound j) us w h a = omega arith
-      size-token at (Name n k) us w h a = let f = size-named (look at (Name n k)) us w a in omega arith
-      size-token at (InstanceOperator i n k) us w h a = let f = size-named (look at (InstanceOperator i n k)) us w a in omega arith
-      size-token at (BuiltIn c) us w h a =
+      size-token : (at : ℕ) (t : Token) (us : Terms) (w : ℕ) → Measured σ us w → 2 * size (spell σ (token_in look decls P at t us)) ≤ growth * width_of t + w
+      size-token at (Parameter i) us w a = omega arith
+      size-token at (Bound j) us w a = omega arith
+      size-token at (Name n k) us w a = let f = size-named (look at (Name n k)) us w a in omega arith
+      size-token at (InstanceOperator i n k) us w a = let f = size-named (look at (InstanceOperator i n k)) us w a in omega arith
+      size-token at (BuiltIn c) us w a =
           let p = bound-place (code_binder c) in
           let f : 2 * size (spells σ (binds_in (code_binder c)) us) ≤ w + 4 = a.scoped (binds_in (code_binder c)) p.0 p.1 in
           omega arith
-      size-token at (Literal v) us w h a = omega arith
-      size-token at NoToken us w h a = never (sym h)
+      size-token at (Literal v) us w a = omega arith
 
       mutual
-        size-string : (t : Expr) → AreTokens t → 2 * size (spell σ (term_in look decls P t)) ≤ growth * bytes_in t
-        size-string (node h ts) (a, b) =
+        size-string : (t : Expr) → 2 * size (spell σ (term_in look decls P t)) ≤ growth * bytes_in t
+        size-string (node h ts) =
             let f : 2 * size (spell σ (token_in look decls P h.at h.token (terms_in look decls P ts))) ≤ growth * width_of h.token + growth * bytes_in_all ts =
-            size-token h.at h.token (terms_in look decls P ts) (growth * bytes_in_all ts) a (size-strings ts b) in
+            size-token h.at h.token (terms_in look decls P ts) (growth * bytes_in_all ts) (size-strings ts) in
             omega arith
 
-        size-strings : (ts : Exprs) → AllAreTokens ts → Measured σ (terms_in look decls P ts) (growth * bytes_in_all ts)
-        size-strings ⟨⟩ u = measured-none
-        size-strings (t ▹ ts) (a, b) =
+        size-strings : (ts : Exprs) → Measured σ (terms_in look decls P ts) (growth * bytes_in_all ts)
+        size-strings ⟨⟩ = measured-none
+        size-strings (t ▹ ts) =
             subst (Measured σ (terms_in look decls P (t ▹ ts))) (omega arith)
-            (measured-more (term_in look decls P t) (terms_in look decls P ts) (growth * bytes_in t) (growth * bytes_in_all ts) (size-string t a) (size-strings ts b))
+            (measured-more (term_in look decls P t) (terms_in look decls P ts) (growth * bytes_in t) (growth * bytes_in_all ts) (size-string t) (size-strings ts))
 
       pub text-short : (n : ℕ) (s : List ℕ) (at : ℕ) (t : Expr) (e : ℕ) → expr_at n s at ≡ found t e → 2 * size (spell σ (term_in look decls P t)) ≤ growth * (e - at)
       text-short n s at t e p =
           let q = text-ends n s at t e p in
-          let f : 2 * size (spell σ (term_in look decls P t)) ≤ growth * bytes_in t = size-string t q.1 in
-          omega (arith, q.0)
+          let f : 2 * size (spell σ (term_in look decls P t)) ≤ growth * bytes_in t = size-string t in
+          omega (arith, q)

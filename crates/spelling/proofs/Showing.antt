@@ -124,27 +124,25 @@ mutual
   all-refs-looks m refs (t ▹ ts) (a, b) = (refs-looks m refs t a, all-refs-looks m refs ts b)
 
 -- the walk from the start on
-pub text-string : (s refs names declared numbers shapes : List ℕ) (at level outer : ℕ) (out out' : List ℕ) (q' x : ℕ) (fits : Bool) → ((i : ℕ) → get_or s i 0 < 256)
+pub text-string : (s refs names declared numbers shapes : List ℕ) (at level outer : ℕ) (out out' : List ℕ) (q' x : ℕ) → ((i : ℕ) → get_or s i 0 < 256)
     → NumbersFit names
     → Wrote (by_refs refs) (shape_in shapes) (declarations_in names declared) (place_of level outer numbers) (expr_at max_nesting s at) out 0 out' q' x
-    → fits ≡ leb q' (length out') → length out' ≡ length out → TextString s refs names declared numbers shapes at level outer out' (length out) fits q'
-text-string s refs names declared numbers shapes at level outer out out' q' x fits bytes names-fit w f l =
-    let e : fits ≡ leb q' (length out) = f ∙ ap (leb q') l in
+    → TextString s refs names declared numbers shapes at level outer out' (length out) (leb q' (length out)) q'
+text-string s refs names declared numbers shapes at level outer out out' q' x bytes names-fit w =
     record {
-      told = e;
+      told = refl;
       string = λ decls t y p below few shown fit narrow.
-          spells-text names declared names-fit shapes (place_of level outer numbers) out out' q' fits e (by_refs refs) s bytes max_nesting at t y p
+          spells-text names declared names-fit shapes (place_of level outer numbers) out out' q' (leb q' (length out)) refl (by_refs refs) s bytes max_nesting at t y p
           (found-put (by_refs refs) (shape_in shapes) (declarations_in names declared) (place_of level outer numbers) (expr_at max_nesting s at) out 0 out' q' x t y p w)
           decls (refs-looks (max_definitions + length decls) refs t below) few shown fit narrow;
     }
 
 pub implied-string : (names declared numbers shapes : List ℕ) (r level outer p k j i : ℕ) (out out₁ : List ℕ) (all : Bool) (m : ℕ) (binds : Bool) (q₁ : ℕ) (out' : List ℕ)
-    (all' : Bool) (m' : ℕ) (binds' : Bool) (q' : ℕ) (fits : Bool) → NumbersFit names → k < 256 → j ≡ k → i ≡ outer + p
+    (all' : Bool) (m' : ℕ) (binds' : Bool) (q' : ℕ) → NumbersFit names → k < 256 → j ≡ k → i ≡ outer + p
     → Named (shape_in shapes) (declarations_in names declared) (place_of level outer numbers) r j out 0 out₁ all m binds q₁
-    → Led i k all m out₁ q₁ out' all' m' binds' q' → fits ≡ leb q' (length out') → length out' ≡ length out
-    → ImpliedString names declared numbers shapes r level outer p k out' (length out) fits q'
-implied-string names declared numbers shapes r level outer p k j i out out₁ all m binds q₁ out' all' m' binds' q' fits names-fit lk ej ei d l f z =
-    let e : fits ≡ leb q' (length out) = f ∙ ap (leb q') z in
+    → Led i k all m out₁ q₁ out' all' m' binds' q'
+    → ImpliedString names declared numbers shapes r level outer p k out' (length out) (leb q' (length out)) q'
+implied-string names declared numbers shapes r level outer p k j i out out₁ all m binds q₁ out' all' m' binds' q' names-fit lk ej ei d l =
     let P : Setting = place_of level outer numbers in
     let us : Terms = params_from (outer + p) k in
     let g : spell (shape_in shapes) (named_in (declarations_in names declared) P r us) ≡ d.first ++ parts (shape_in shapes) all m false us =
@@ -156,5 +154,5 @@ implied-string names declared numbers shapes r level outer p k j i out out₁ al
     (put-symbols out 0 d.first out₁ q₁ (parts (shape_in shapes) all m false us) out' q' d.put o) in
     record {
       string = λ decls below few shown fit narrow.
-          spells-implied names declared names-fit shapes P out out' q' fits e r (outer + p) k lk w decls below few shown fit narrow;
+          spells-implied names declared names-fit shapes P out out' q' (leb q' (length out)) refl r (outer + p) k lk w decls below few shown fit narrow;
     }

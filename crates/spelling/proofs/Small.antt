@@ -4,8 +4,8 @@ use mathlib.Core.List.{List, [], ◌∷◌}
 use mathlib.Core.Path.{◌∙◌, ◌≡◌, ap, refl, subst}
 use Prim.Native.Nat.{ℕ, zero, suc, ◌+◌, ◌-◌, ◌/◌, ◌%◌, ◌<◌}
 use native.Mathlib.Omega.{arith}
-use lib.Dec.{eqb, leb, ltb}
-use lib.ListN.{get_or, length}
+use lib.Dec.{eqb, ltb}
+use lib.ListN.{get_or}
 use Rattle.limits.specs.Limits.{max_definitions}
 use Rattle.theory.proofs.Lists.{append-all}
 use Rattle.theory.specs.Expand.{params_from}
@@ -14,11 +14,12 @@ use Rattle.theory.specs.Lists.{All}
 use Rattle.theory.specs.Term.{Terms}
 use Rattle.theory.specs.Tree.{◌▹◌, count, join, node, ⟨⟩}
 use Rattle.rows.specs.Rows.{arity_of, no_code}
-use Rattle.tokens.specs.Token.{arguments_of, is_token, number_at, tagged_at, token_at, width_of}
+use Rattle.tokens.specs.Token.{arguments_of, number_at, tagged_at, token_at, width_of}
 use Rattle.tokens.specs.Expr.{Expr, Exprs, Found, Founds, after, before, expr_at, found, founds, none, nones, over, several}
 use Rattle.tokens.specs.declared.Token.{Token}
-use Rattle.tokens.specs.declared.Token.TheVariants.{BuiltIn, Bound, InstanceOperator, Literal, Name, NoToken, Parameter}
-use Rattle.tokens.proofs.Places.{cases}
+use Rattle.tokens.specs.declared.Token.TheVariants.{BuiltIn, Bound, InstanceOperator, Literal, Name, Parameter}
+use Rattle.tokens.proofs.Places.{Each, cases, each_fitting, each_none, each_some}
+use Rattle.tokens.proofs.Reading.{heads}
 use Rattle.texts.specs.Text.{Declarations, no_declaration}
 use Rattle.symbols.specs.Symbol.{Symbol, begin, bytes_of, call, code, end, name, number, par, symbol_bytes, var}
 use Rattle.symbols.specs.Spell.{alone_shape, bracketed, call_head, mask_of, masked, spell, spells}
@@ -58,29 +59,31 @@ Small (Name n k) = k < 256
 Small (InstanceOperator i n k) = k < 256
 Small (BuiltIn c) = c < 256
 Small (Literal v) = v < 65536
-Small NoToken = Unit {0}
 
 module _ (s : List ℕ) (bytes : (i : ℕ) → get_or s i 0 < 256) where
   two-small : (i : ℕ) → number_at s i < 65536
   two-small i = let a = bytes i in let b = bytes (i + 1) in omega arith
 
-  small-tagged : (at tag : ℕ) → Small (tagged_at s at tag)
+  small-tagged : (at tag : ℕ) → Each Small (tagged_at s at tag)
   unfolding tagged_at
   small-tagged at tag =
       let n = number_at s (at + 1) in
+      let m = number_at s (at + 3) in
       let c = get_or s (at + 1) 0 in
-      cases Small (eqb tag 0) (λ _. tt)
-      (λ _. cases Small (eqb tag 1) (λ _. two-small (at + 1))
-      (λ _. cases Small (eqb tag 2) (λ _. cases Small (eqb n 0) (λ _. tt) (λ _. bytes (at + 3)))
-      (λ _. cases Small (eqb tag 3) (λ _. cases Small (eqb n 0) (λ _. tt) (λ _. cases Small (eqb (number_at s (at + 3)) 0) (λ _. tt) (λ _. bytes (at + 5))))
-      (λ _. cases Small (eqb tag 4) (λ _. cases Small (eqb (arity_of c) no_code) (λ _. tt) (λ e. bytes (at + 1)))
-      (λ _. cases Small (eqb tag 5) (λ _. two-small (at + 1)) (λ _. tt))))))
+      cases (Each Small) (eqb tag 0) (λ _. each_some Small (Parameter c) tt)
+      (λ _. cases (Each Small) (eqb tag 1) (λ _. each_some Small (Bound n) (two-small (at + 1)))
+      (λ _. cases (Each Small) (eqb tag 2)
+      (λ _. cases (Each Small) (eqb n 0) (λ _. each_none Small) (λ _. each_some Small (Name n (get_or s (at + 3) 0)) (bytes (at + 3))))
+      (λ _. cases (Each Small) (eqb tag 3)
+      (λ _. cases (Each Small) (eqb n 0) (λ _. each_none Small)
+      (λ _. cases (Each Small) (eqb m 0) (λ _. each_none Small) (λ _. each_some Small (InstanceOperator n m (get_or s (at + 5) 0)) (bytes (at + 5)))))
+      (λ _. cases (Each Small) (eqb tag 4)
+      (λ _. cases (Each Small) (eqb (arity_of c) no_code) (λ _. each_none Small) (λ e. each_some Small (BuiltIn c) (bytes (at + 1))))
+      (λ _. cases (Each Small) (eqb tag 5) (λ _. each_some Small (Literal n) (two-small (at + 1))) (λ _. each_none Small))))))
 
-  small_at : (at : ℕ) → Small (token_at s at)
+  small_at : (at : ℕ) → Each Small (token_at s at)
   unfolding token_at
-  small_at at =
-      let t = tagged_at s at (get_or s at 0) in
-      cases Small (leb (at + width_of t) (length s)) (λ _. small-tagged at (get_or s at 0)) (λ _. tt)
+  small_at at = each_fitting Small s at (tagged_at s at (get_or s at 0)) (small-tagged at (get_or s at 0))
 
 -- the tokens of a text are such, with their arguments
 abbrev mutual
@@ -119,10 +122,10 @@ small-found : (s : List ℕ) → ((i : ℕ) → get_or s i 0 < 256) → (n at : 
 unfolding expr_at
 small-found s bytes zero at = tt
 small-found s bytes (suc n) at =
-    let t = token_at s at in
-    cases SmallFound (is_token t)
-    (λ e. small-over at t (several (expr_at n s) (at + width_of t) (arguments_of t)) (small_at s bytes at)
-    (small-several (expr_at n s) (small-found s bytes n) (at + width_of t) (arguments_of t))) (λ e. tt)
+    let follow : Token → Founds = λ t. several (expr_at n s) (at + width_of t) (arguments_of t) in
+    heads SmallFound at (token_at s at) follow
+    (λ t e. small-over at t (follow t) (small_at s bytes at t e) (small-several (expr_at n s) (small-found s bytes n) (at + width_of t) (arguments_of t)))
+    (λ e. tt)
 
 pub small-text : (s : List ℕ) → ((i : ℕ) → get_or s i 0 < 256) → (n at : ℕ) (t : Expr) (e : ℕ) → expr_at n s at ≡ found t e → SmallText t
 small-text s bytes n at t e p = subst SmallFound p (small-found s bytes n at)
@@ -191,7 +194,6 @@ module _ (σ : ℕ → ℕ) where
       small-token at (InstanceOperator i n m) us a h k = small-named (look at (InstanceOperator i n m)) us a (rw k h)
       small-token at (BuiltIn c) us a h k = (h, a.plainly (binds_in (code_binder c)))
       small-token at (Literal v) us a h k = (h, tt)
-      small-token at NoToken us a h k = (omega arith, tt)
 
       count-terms : (ts : Exprs) → count (terms_in look decls P ts) ≡ count ts
       count-terms ⟨⟩ = refl

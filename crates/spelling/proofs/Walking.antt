@@ -7,13 +7,14 @@ use native.Mathlib.Omega.{arith}
 use borrow.Author.Tests.{eq-eqb, ne_eqb}
 use lib.Dec.{eqb}
 use lib.ListN.{get_or, length}
+use Rattle.std.specs.Prelude.{Option, None, Some}
 use Rattle.theory.proofs.Lists.{never}
 use Rattle.theory.specs.Term.{Terms}
 use Rattle.theory.specs.Tree.{◌▹◌, count, ⟨⟩}
-use Rattle.tokens.specs.Token.{arguments_of, is_token, token_at, width_of}
+use Rattle.tokens.specs.Token.{arguments_of, token_at, width_of}
 use Rattle.tokens.specs.Expr.{Expr, Exprs, Found, Founds, after, before, expr_at, found, founds, none, nones, over, several}
 use Rattle.tokens.specs.declared.Token.{Token}
-use Rattle.tokens.specs.declared.Token.TheVariants.{BuiltIn, Bound, InstanceOperator, Literal, Name, NoToken, Parameter}
+use Rattle.tokens.specs.declared.Token.TheVariants.{BuiltIn, Bound, InstanceOperator, Literal, Name, Parameter}
 use Rattle.tokens.proofs.Reading.{expr-more, expr-none, expr-zero, several-more}
 use Rattle.texts.specs.Text.{Declarations}
 use Rattle.symbols.specs.Symbol.{Symbol, begin, bytes_of, end}
@@ -83,7 +84,6 @@ token-same look decls P at (Name n k) r ts e = rw e
 token-same look decls P at (InstanceOperator i n k) r ts e = rw e
 token-same look decls P at (BuiltIn c) r ts e = refl
 token-same look decls P at (Literal v) r ts e = refl
-token-same look decls P at NoToken r ts e = refl
 
 module _ (look : ℕ → Token → ℕ) (σ : ℕ → ℕ) (decls : Declarations) (P : Setting) where
   count-terms : (ts : Exprs) → count (terms_in look decls P ts) ≡ count ts
@@ -106,15 +106,15 @@ module _ (look : ℕ → Token → ℕ) (σ : ℕ → ℕ) (decls : Declarations
     unfolding Wrote
     wrote-limit h = rw (expr-zero n s at h) tt
 
-    pub wrote_nothing : (t : Token) (i : Bool) → t ≡ token_at s at → i ≡ is_token t → i ≡ false → Wrote look σ decls P (expr_at n s at) out q out' q' x
+    pub wrote_nothing : (o : Option Token) → o ≡ token_at s at → o ≡ None → Wrote look σ decls P (expr_at n s at) out q out' q' x
     unfolding Wrote
-    wrote_nothing t i p f g = rw (expr-none n s at (rw (← p) (sym f ∙ g))) tt
+    wrote_nothing o p f = rw (expr-none n s at (sym p ∙ f)) tt
 
-    pub wrote-token : (t : Token) (i : Bool) (r w k : ℕ) (all : Bool) (m : ℕ) (binds : Bool) (out₁ : List ℕ) (q₁ : ℕ) → (n ≡ 0 → ⊥) → t ≡ token_at s at → i ≡ is_token t
-        → i ≡ true → r ≡ look at t → Headed σ decls P t r out q out₁ all m binds q₁ → w ≡ width_of t → k ≡ arguments_of t
+    pub wrote-token : (o : Option Token) (t : Token) (r w k : ℕ) (all : Bool) (m : ℕ) (binds : Bool) (out₁ : List ℕ) (q₁ : ℕ) → (n ≡ 0 → ⊥) → o ≡ token_at s at → o ≡ Some t
+        → r ≡ look at t → Headed σ decls P t r out q out₁ all m binds q₁ → w ≡ width_of t → k ≡ arguments_of t
         → AllWrote look σ decls P (several (expr_at (n - 1) s) (at + w) k) k all m binds out₁ q₁ out' q' x → Wrote look σ decls P (expr_at n s at) out q out' q' x
-    wrote-token t i r w k all m binds out₁ q₁ h p f g hr d hw hk a =
-        rw (expr-more n s at h (rw (← p) (sym f ∙ g)), ← p)
+    wrote-token o t r w k all m binds out₁ q₁ h p f hr d hw hk a =
+        rw (expr-more n s at t h (sym p ∙ f))
         (over-wrote at t r (several (expr_at (n - 1) s) (at + width_of t) (arguments_of t)) all m binds out q out₁ q₁ out' q' x hr d (rw (hw, hk) at a))
 
   first-inside : (binds : Bool) (k : ℕ) (ts : Exprs) → suc (count ts) ≡ k → cond (binds && eqb k 1) 1 0 ≡ bound_before binds (count (terms_in look decls P ts))
@@ -162,9 +162,9 @@ module _ (look : ℕ → Token → ℕ) (σ : ℕ → ℕ) (decls : Declarations
   args_none f at k all m binds out q h = rw h (put-none out q, refl, refl)
 
 -- by the table of what names were resolved to
-pub text-token : (refs : List ℕ) (σ : ℕ → ℕ) (decls : Declarations) (P : Setting) (n : ℕ) (s : List ℕ) (at : ℕ) (out : List ℕ) (q : ℕ) (out' : List ℕ) (q' x : ℕ) (t : Token) (i : Bool)
-    (r w k : ℕ) (all : Bool) (m : ℕ) (binds : Bool) (out₁ : List ℕ) (q₁ : ℕ) → (n ≡ 0 → ⊥) → t ≡ token_at s at → i ≡ is_token t
-    → i ≡ true → r ≡ get_or refs at 0 → Headed σ decls P t r out q out₁ all m binds q₁ → w ≡ width_of t → k ≡ arguments_of t
+pub text-token : (refs : List ℕ) (σ : ℕ → ℕ) (decls : Declarations) (P : Setting) (n : ℕ) (s : List ℕ) (at : ℕ) (out : List ℕ) (q : ℕ) (out' : List ℕ) (q' x : ℕ) (o : Option Token) (t : Token)
+    (r w k : ℕ) (all : Bool) (m : ℕ) (binds : Bool) (out₁ : List ℕ) (q₁ : ℕ) → (n ≡ 0 → ⊥) → o ≡ token_at s at → o ≡ Some t
+    → r ≡ get_or refs at 0 → Headed σ decls P t r out q out₁ all m binds q₁ → w ≡ width_of t → k ≡ arguments_of t
     → AllWrote (by_refs refs) σ decls P (several (expr_at (n - 1) s) (at + w) k) k all m binds out₁ q₁ out' q' x → Wrote (by_refs refs) σ decls P (expr_at n s at) out q out' q' x
-text-token refs σ decls P n s at out q out' q' x t i r w k all m binds out₁ q₁ h p f g hr d hw hk a =
-    wrote-token (by_refs refs) σ decls P n s at out q out' q' x t i r w k all m binds out₁ q₁ h p f g hr d hw hk a
+text-token refs σ decls P n s at out q out' q' x o t r w k all m binds out₁ q₁ h p f hr d hw hk a =
+    wrote-token (by_refs refs) σ decls P n s at out q out' q' x o t r w k all m binds out₁ q₁ h p f hr d hw hk a

@@ -14,6 +14,7 @@ use Rattle.standing.specs.Standing.{itselves}
 use Rattle.unfolding.specs.InWorld.{by_refs, implied_in, term_in}
 use Rattle.resolve.specs.Walk.{number_in}
 use Rattle.spelling.specs.Written.{place_of}
+use Rattle.store.specs.declared.Facts.{Facts}
 
 -- the shapes of a table
 abbrev pub shapes_of : List ℕ → ℕ → ℕ
@@ -80,11 +81,11 @@ pub record ImpliedString (names declared numbers shapes : List ℕ) (r level out
       → Spells (spell (shapes_of shapes) (implied_in decls (place_of level outer numbers) p k r)) out room fits len
 
 -- what a name means in a context given by its codes
-abbrev pub by_context : List ℕ → List ℕ → List ℕ → ℕ → Token → ℕ
+abbrev pub by_context : List ℕ → List Facts → List ℕ → ℕ → Token → ℕ
 by_context names facts cs at t = number_in names facts cs t
 
 -- the string of the expression that bytes begin with, in the context of the codes cs
-pub record QueryString (expr names facts cs declared shapes : List ℕ) (out : List ℕ) (room : ℕ) (fits : Bool) (len : ℕ) : Type 0 where
+pub record QueryString (expr names : List ℕ) (facts : List Facts) (cs declared shapes : List ℕ) (out : List ℕ) (room : ℕ) (fits : Bool) (len : ℕ) : Type 0 where
   pub string : (decls : Declarations) (t : Expr) (e : ℕ) → expr_at max_nesting expr 0 ≡ found t e → LooksBelow (max_definitions + length decls) (by_context names facts cs) t
       → length decls ≤ max_declarations → NamesShown names declared decls → ShapesFit shapes → Narrow (spell (shapes_of shapes) (term_in (by_context names facts cs) decls (place_of 0 0 itselves) t))
       → Spells (spell (shapes_of shapes) (term_in (by_context names facts cs) decls (place_of 0 0 itselves) t)) out room fits len

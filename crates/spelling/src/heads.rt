@@ -7,14 +7,12 @@ ghost use Rattle.texts.specs.Text.{no_declaration};
 ghost use Rattle.spelling.specs.Put.{Put};
 ghost use Rattle.spelling.specs.Parts.{is_written};
 ghost use Rattle.spelling.specs.Written.{shape_in, declarations_in, place_of, BuiltInPut, Called, Led, Lead, Named, Headed};
-ghost use Rattle.store.specs.Store.{held};
 
 use crate::put::{put_call, put_name, put_number, put_pair, put_parameter};
 use crate::{ChainDepth, Rest};
 use context::lists::number_at;
 use limits::Limits;
 use store::Store;
-use store::reading::{declared_at, name_at};
 use symbols::Shape;
 use tokens::Token;
 
@@ -114,18 +112,18 @@ pub fn call(shapes: &[u32], out: &mut [u8], n: usize, outer: usize, q: usize) ->
 }
 
 // The name of the declaration that r stands for.
-fn declared_name(store: &[u16; Store::LENGTH], r: usize) -> u16
+fn declared_name(store: &Store, r: usize) -> u16
     requires { (max_definitions ≤ r) × (r < 2 ^ 16) }
-    ensures { result ≡ (get_or (declarations_in (held store.now).names (held store.now).declared) (r - max_definitions) no_declaration).1 }
+    ensures { result ≡ (get_or (declarations_in store.now.names store.now.declared) (r - max_definitions) no_declaration).1 }
 {
     let d = r - Limits::DEFINITIONS;
-    let o = declared_at(store, d) as usize;
-    name_at(store, o)
+    let o = store.declared_at(d) as usize;
+    store.name_at(o)
 }
 
 // The first symbols of a name that was resolved to r, over k arguments.
 pub fn named(
-    store: &[u16; Store::LENGTH],
+    store: &Store,
     numbers: &[u16],
     shapes: &[u32],
     out: &mut [u8],
@@ -135,7 +133,7 @@ pub fn named(
     q: usize,
 ) -> Rest
     requires { (site.level < 16) × (site.outer ≤ max_arity) × (r < 2 ^ 16) }
-    ensures { Named (shape_in shapes.now) (declarations_in (held store.now).names (held store.now).declared) (place_of site.level site.outer numbers.now) r k out.old q out.new result.all result.mask result.binds result.to }
+    ensures { Named (shape_in shapes.now) (declarations_in store.now.names store.now.declared) (place_of site.level site.outer numbers.now) r k out.old q out.new result.all result.mask result.binds result.to }
 {
     if r < Limits::DEFINITIONS {
         let n = number_at(numbers, r) as usize;
@@ -188,7 +186,7 @@ fn built_in(out: &mut [u8], c: u8, q: usize) -> Rest
 
 // The first symbols of a token, r being what it was resolved to if it is a name.
 pub fn head(
-    store: &[u16; Store::LENGTH],
+    store: &Store,
     numbers: &[u16],
     shapes: &[u32],
     out: &mut [u8],
@@ -198,7 +196,7 @@ pub fn head(
     q: usize,
 ) -> Rest
     requires { (site.level < 16) × (site.outer ≤ max_arity) }
-    ensures { Headed (shape_in shapes.now) (declarations_in (held store.now).names (held store.now).declared) (place_of site.level site.outer numbers.now) t r out.old q out.new result.all result.mask result.binds result.to }
+    ensures { Headed (shape_in shapes.now) (declarations_in store.now.names store.now.declared) (place_of site.level site.outer numbers.now) t r out.old q out.new result.all result.mask result.binds result.to }
 {
     match t {
         Token::Parameter(i) => ended(put_parameter(out, q, site.outer + (i as usize))),
@@ -209,6 +207,5 @@ pub fn head(
         ),
         Token::BuiltIn(c) => built_in(out, c, q),
         Token::Literal(v) => ended(put_number(out, q, 5, v)),
-        Token::NoToken => ended(put_number(out, q, 5, 0)),
     }
 }

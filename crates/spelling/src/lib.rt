@@ -5,15 +5,13 @@ pub mod heads;
 pub mod put;
 pub mod walk;
 
-ghost use Rattle.std.specs.Prelude.{◌<◌, ◌≤◌, length};
+ghost use Rattle.std.specs.Prelude.{◌<◌, ◌≤◌, leb, length};
 ghost use Rattle.limits.specs.Limits.{max_arity};
 ghost use Rattle.spelling.specs.Strings.{ImpliedString, NumbersFit, TextString};
-ghost use Rattle.store.specs.Store.{held};
 
 use crate::heads::{leads, named};
 use crate::walk::write_expr;
 use limits::Limits;
-use store::lending::names_in;
 use store::{Lent, Store};
 
 // How a text is brought: how many instances have been entered, and how many parameters they have.
@@ -25,6 +23,7 @@ pub struct ChainDepth {
 
 // What is left to be written of a token's arguments: from which position on; all, or those whose bits are set; and whether the last is
 // bracketed.
+// `all` beside `mask`, not an Option: the mask moves on with each argument whether all are written or not.
 #[derive(Clone, Copy)]
 pub struct Rest {
     pub to: usize,
@@ -40,13 +39,6 @@ pub struct Ends {
     pub to: usize,
 }
 
-// Whether there was room for a string, and its length.
-#[derive(Clone, Copy)]
-pub struct Spelled {
-    pub fits: bool,
-    pub len: usize,
-}
-
 fn nothing() {}
 
 // The numbers of a slice fit, as a function that calls another is told.
@@ -57,26 +49,27 @@ fn numbers_fit(s: &[u16])
 }
 
 // So the names do: an array of a fixed size tells nothing of its numbers.
-pub fn names_fit(store: &[u16; Store::LENGTH])
-    ensures { NumbersFit (held store.now).names }
+pub fn names_fit(store: &Store)
+    ensures { NumbersFit store.now.names }
 {
-    numbers_fit(names_in(store));
+    numbers_fit(store.names());
 }
 
-// The string of the text at a position, which was brought through `level` instances that have `outer` parameters.
+// The string of the text at a position, which was brought through `level` instances that have `outer` parameters: its length, also where there
+// is no room for it.
 pub fn text_string(
     s: &[u8],
     refs: &[u16; Lent::REFS],
-    store: &[u16; Store::LENGTH],
+    store: &Store,
     numbers: &[u16],
     shapes: &[u32],
     at: usize,
     level: usize,
     outer: usize,
     out: &mut [u8],
-) -> Spelled
+) -> usize
     requires { (level < 16) × (outer ≤ max_arity) }
-    ensures { TextString s.now refs.now (held store.now).names (held store.now).declared numbers.now shapes.now at level outer out.new (length out.old) result.fits result.len }
+    ensures { TextString s.now refs.now store.now.names store.now.declared numbers.now shapes.now at level outer out.new (length out.old) (leb result (length out.old)) result }
 {
     names_fit(store);
     let site = ChainDepth { level, outer };
@@ -92,16 +85,12 @@ pub fn text_string(
         site,
         0,
     );
-    let len = a.to;
-    Spelled {
-        fits: len <= out.len(),
-        len,
-    }
+    a.to
 }
 
-// The string of what a name was resolved to, r, at k parameters after the instances' and p more.
+// The same of what a name was resolved to, r, at k parameters after the instances' and p more.
 pub fn implied_string(
-    store: &[u16; Store::LENGTH],
+    store: &Store,
     numbers: &[u16],
     shapes: &[u32],
     r: u16,
@@ -110,17 +99,13 @@ pub fn implied_string(
     p: usize,
     k: usize,
     out: &mut [u8],
-) -> Spelled
+) -> usize
     requires { (level < 16) × (outer ≤ max_arity) × (p ≤ max_arity) × (k ≤ max_arity) }
-    ensures { ImpliedString (held store.now).names (held store.now).declared numbers.now shapes.now r level outer p k out.new (length out.old) result.fits result.len }
+    ensures { ImpliedString store.now.names store.now.declared numbers.now shapes.now r level outer p k out.new (length out.old) (leb result (length out.old)) result }
 {
     names_fit(store);
     let site = ChainDepth { level, outer };
     let rest = named(store, numbers, shapes, out, r as usize, k as u8, site, 0);
     let a = leads(out, outer + p, k, rest);
-    let len = a.to;
-    Spelled {
-        fits: len <= out.len(),
-        len,
-    }
+    a.to
 }

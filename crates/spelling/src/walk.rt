@@ -5,7 +5,6 @@ ghost use Rattle.tokens.specs.Expr.{expr_at, several};
 ghost use Rattle.unfolding.specs.InWorld.{by_refs};
 ghost use Rattle.spelling.specs.Parts.{is_written, Opened, Closed};
 ghost use Rattle.spelling.specs.Written.{shape_in, declarations_in, place_of, Wrote, AllWrote, ArgumentWrote};
-ghost use Rattle.store.specs.Store.{held};
 
 use crate::heads::{head, is_written, passed};
 use crate::put::put_byte;
@@ -54,7 +53,7 @@ pub fn close_argument(out: &mut [u8], rest: Rest, k: u8, to: usize) -> usize
 pub fn write_expr(
     s: &[u8],
     refs: &[u16; Lent::REFS],
-    store: &[u16; Store::LENGTH],
+    store: &Store,
     numbers: &[u16],
     shapes: &[u32],
     out: &mut [u8],
@@ -64,33 +63,31 @@ pub fn write_expr(
     q: usize,
 ) -> Ends
     requires { (site.level < 16) × (site.outer ≤ max_arity) }
-    ensures { Wrote (by_refs refs.now) (shape_in shapes.now) (declarations_in (held store.now).names (held store.now).declared) (place_of site.level site.outer numbers.now) (expr_at nest s.now at) out.old q out.new result.to result.next }
+    ensures { Wrote (by_refs refs.now) (shape_in shapes.now) (declarations_in store.now.names store.now.declared) (place_of site.level site.outer numbers.now) (expr_at nest s.now at) out.old q out.new result.to result.next }
 {
     if nest == 0 {
         return Ends { next: at, to: q };
     }
-    let t = tokens::token_at(s, at);
-    if tokens::is_token(t) {
-        let r = number_at(refs, at);
-        let rest = head(store, numbers, shapes, out, t, r, site, q);
-        let start = at + tokens::width(t);
-        let k = tokens::arguments(t);
-        write_args(
-            s,
-            refs,
-            store,
-            numbers,
-            shapes,
-            out,
-            start,
-            k,
-            nest - 1,
-            site,
-            rest,
-        )
-    } else {
-        Ends { next: at, to: q }
-    }
+    let Some(t) = tokens::token_at(s, at) else {
+        return Ends { next: at, to: q };
+    };
+    let r = number_at(refs, at);
+    let rest = head(store, numbers, shapes, out, t, r, site, q);
+    let start = at + tokens::width(t);
+    let k = tokens::arguments(t);
+    write_args(
+        s,
+        refs,
+        store,
+        numbers,
+        shapes,
+        out,
+        start,
+        k,
+        nest - 1,
+        site,
+        rest,
+    )
 }
 
 // What is left to be written of k arguments from a position on.
@@ -98,7 +95,7 @@ pub fn write_expr(
 fn write_args(
     s: &[u8],
     refs: &[u16; Lent::REFS],
-    store: &[u16; Store::LENGTH],
+    store: &Store,
     numbers: &[u16],
     shapes: &[u32],
     out: &mut [u8],
@@ -109,7 +106,7 @@ fn write_args(
     rest: Rest,
 ) -> Ends
     requires { (site.level < 16) × (site.outer ≤ max_arity) }
-    ensures { AllWrote (by_refs refs.now) (shape_in shapes.now) (declarations_in (held store.now).names (held store.now).declared) (place_of site.level site.outer numbers.now) (several (expr_at nest s.now) at k) k rest.all rest.mask rest.binds out.old rest.to out.new result.to result.next }
+    ensures { AllWrote (by_refs refs.now) (shape_in shapes.now) (declarations_in store.now.names store.now.declared) (place_of site.level site.outer numbers.now) (several (expr_at nest s.now) at k) k rest.all rest.mask rest.binds out.old rest.to out.new result.to result.next }
 {
     if k == 0 {
         return Ends {
@@ -141,7 +138,7 @@ fn write_args(
 fn write_argument(
     s: &[u8],
     refs: &[u16; Lent::REFS],
-    store: &[u16; Store::LENGTH],
+    store: &Store,
     numbers: &[u16],
     shapes: &[u32],
     out: &mut [u8],
@@ -152,7 +149,7 @@ fn write_argument(
     rest: Rest,
 ) -> Ends
     requires { (site.level < 16) × (site.outer ≤ max_arity) }
-    ensures { ArgumentWrote (by_refs refs.now) (shape_in shapes.now) (declarations_in (held store.now).names (held store.now).declared) (place_of site.level site.outer numbers.now) (expr_at nest s.now at) k rest.all rest.mask rest.binds out.old rest.to out.new result.to result.next }
+    ensures { ArgumentWrote (by_refs refs.now) (shape_in shapes.now) (declarations_in store.now.names store.now.declared) (place_of site.level site.outer numbers.now) (expr_at nest s.now at) k rest.all rest.mask rest.binds out.old rest.to out.new result.to result.next }
 {
     let q = open_argument(out, rest, k);
     let a = write_expr(s, refs, store, numbers, shapes, out, at, nest, site, q);

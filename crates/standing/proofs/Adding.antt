@@ -12,7 +12,7 @@ use Rattle.limits.specs.Limits.{file_bytes, max_definitions}
 use Rattle.theory.specs.Lists.{All}
 use Rattle.theory.specs.Level.{IsLevel}
 use Rattle.rules.specs.Add.{add}
-use Rattle.rules.specs.Field.{Field, definition, instance}
+use Rattle.rules.specs.Field.{Field}
 use Rattle.rules.specs.Judge.{judge}
 use Rattle.rules.specs.State.{Added, State, card_level, params_of}
 use Rattle.laws.proofs.Origins.{declaration}
@@ -24,7 +24,7 @@ use Rattle.texts.specs.Text.{Declarations}
 use Rattle.text_levels.proofs.OwnWorld.{Shows}
 use Rattle.resolve.proofs.Numbers.{declarations_of, declares-other}
 use Rattle.context.specs.Holds.{Holds}
-use Rattle.store.specs.Store.{Store}
+use Rattle.store.specs.declared.Store.{Store}
 use Rattle.context.specs.declared.Counts.{Counts}
 use Rattle.worlds.specs.Rows.{Row, new_rows, no_row, rows_after}
 use Rattle.judge_plain.specs.Judges.{phase_of}

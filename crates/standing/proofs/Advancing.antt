@@ -27,7 +27,8 @@ use Rattle.levels.specs.Tables.{scene_of, table_words}
 use Rattle.resolve.proofs.Numbers.{Declares, declarations_of, declares-other, few-declarations}
 use Rattle.context.specs.Holds.{Holds}
 use Rattle.context.specs.Entries.{field_code}
-use Rattle.store.specs.Store.{Store, first_at}
+use Rattle.store.specs.Store.{first_at}
+use Rattle.store.specs.declared.Store.{Store}
 use Rattle.context.specs.declared.Counts.{Counts}
 use Rattle.context.proofs.Room.{context-space-for, order-space-for}
 use Rattle.worlds.specs.Rows.{Row, new_rows, rows_after}

@@ -10,7 +10,7 @@ use Rattle.agree.specs.Parts.{SubstitutionsAt}
 use Rattle.fields.specs.Substitution.{next_substitution}
 use Rattle.fields.specs.declared.Parts.{Parts}
 use Rattle.fields.specs.declared.Parts.TheVariants.{Extends, Definition, Instance, EndModule, Cut, EndOfFile}
-use Rattle.store.specs.Store.{Store}
+use Rattle.store.specs.declared.Store.{Store}
 use Rattle.context.specs.declared.Counts.{Counts}
 use Rattle.levels.specs.Tables.{table_words}
 use Rattle.judge_plain.proofs.Lifted.{end-room}

@@ -16,7 +16,7 @@ use Rattle.levels.specs.Tables.{scene_of}
 use Rattle.levels.proofs.Numbered.{numbers-at}
 use Rattle.texts.specs.Text.{Declarations, no_declaration}
 use Rattle.text_levels.proofs.OwnWorld.{Shows}
-use Rattle.store.specs.Store.{Store}
+use Rattle.store.specs.declared.Store.{Store}
 use Rattle.context.specs.declared.Counts.{Counts}
 use Rattle.standing.specs.Grows.{RowsKept}
 use Rattle.standing.specs.Standing.{DeclaredCodes, itselves}

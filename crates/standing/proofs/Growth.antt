@@ -4,13 +4,13 @@ use mathlib.Core.Bool.{Bool, cond, false, true}
 use mathlib.Core.List.{List, [], ◌++◌, ◌∷◌, append_assoc, append-nil, map, map-append}
 use mathlib.Core.Option.{none}
 use mathlib.Core.Path.{◌∙◌, ◌≡◌, ap, ap₂, refl, subst, sym}
-use Prim.Native.Nat.{ℕ, ◌+◌, ◌-◌, ◌*◌, ◌≤◌, ◌<◌}
+use Prim.Native.Nat.{ℕ, ◌+◌, ◌-◌, ◌≤◌, ◌<◌}
 use native.Mathlib.Omega.{arith}
 use lib.Dec.{eqb, ltb}
 use lib.ListN.{get_or-append, get_or, length, length-append, set}
 use lib.Seq.{get_or_at, get_or-set_other}
 use Rattle.limits.specs.Limits.{max_definitions}
-use Rattle.limits.specs.Sizes.{column_count}
+use Rattle.store.specs.Store.{no_facts}
 use Rattle.theory.specs.Lists.{numbers_from}
 use Rattle.theory.specs.Term.{constant, variable}
 use Rattle.theory.proofs.Lists.{never}
@@ -22,8 +22,8 @@ use Rattle.rules.specs.State.{Added, Context, Entry, Module, Origin, Phase, Stat
 use Rattle.laws.proofs.Causes.{clear-field}
 use Rattle.context.specs.Holds.{Holds, Known, module_no}
 use Rattle.context.specs.Entries.{codes_of, entry_at, field_code, variable_kind}
-use Rattle.store.specs.Store.{Store, count_at, first_at, kind_at}
-use Rattle.store.specs.Updates.{stored}
+use Rattle.store.specs.Store.{count_at, first_at, kind_at}
+use Rattle.store.specs.declared.Store.{Store}
 use Rattle.context.specs.declared.Counts.{Counts}
 use Rattle.store.specs.declared.Facts.{Facts}
 use Rattle.context.proofs.Change.{fact-other}
@@ -36,17 +36,15 @@ use Rattle.standing.specs.Grows.{Grows, RowsKept}
 pub rows_same : (v : Store) (c : Counts) (v' : Store) → v'.names ≡ v.names → v'.facts ≡ v.facts → RowsKept v c v'
 rows_same v c v' a b = record {
   names = λ o k. ap (λ (l : List ℕ). get_or l o 0) a;
-  facts = λ o j k l. ap (λ (l : List ℕ). get_or l (column_count * o + j) 0) b;
+  facts = λ o k. ap (λ (l : List Facts). get_or l o no_facts) b;
 }
 
 -- a code that was not given yet was stored,
 pub rows-stored : (v : Store) (c : Counts) (v' : Store) (o name : ℕ) (r : Facts) → (Known c.fields c.definitions o → ⊥) → v'.names ≡ set v.names o name
-    → v'.facts ≡ stored v.facts o r → RowsKept v c v'
+    → v'.facts ≡ set v.facts o r → RowsKept v c v'
 rows-stored v c v' o name r new a b = record {
   names = λ p k. ap (λ (l : List ℕ). get_or l p 0) a ∙ get_or-set_other v.names o p name 0 (λ (e : p ≡ o). new (subst (Known c.fields c.definitions) e k));
-  facts = λ p j k l. ap (λ (l : List ℕ). get_or l (column_count * p + j) 0) b
-      ∙ fact-other v.facts o r (column_count * p + j)
-      (λ (i : ℕ) (m : i < column_count) (e : column_count * p + j ≡ column_count * o + i). let q : p ≡ o = omega arith in new (subst (Known c.fields c.definitions) q k));
+  facts = λ p k. ap (λ (l : List Facts). get_or l p no_facts) b ∙ fact-other v.facts o r p (λ (e : p ≡ o). new (subst (Known c.fields c.definitions) e k));
 }
 
 -- the codes that a field gives are new
@@ -66,7 +64,7 @@ code_of (definition_origin g) = g
 abbrev code_in : Entry → ℕ
 code_in e = code_of (origin_of e)
 
-code-back : (names facts : List ℕ) (o : ℕ) → code_in (entry_at names facts o) ≡ o
+code-back : (names : List ℕ) (facts : List Facts) (o : ℕ) → code_in (entry_at names facts o) ≡ o
 unfolding entry_at
 code-back names facts o = go (ltb o max_definitions) refl (ltb (kind_at facts o) variable_kind) (eqb (kind_at facts o) variable_kind)
   where
@@ -79,7 +77,7 @@ code-back names facts o = go (ltb o max_definitions) refl (ltb (kind_at facts o)
     go false e false true = omega (arith, ltb-false o max_definitions e)
     go false e false false = omega (arith, ltb-false o max_definitions e)
 
-codes-back : (names facts os : List ℕ) → map code_in (map (entry_at names facts) os) ≡ os
+codes-back : (names : List ℕ) (facts : List Facts) (os : List ℕ) → map code_in (map (entry_at names facts) os) ≡ os
 codes-back names facts [] = refl
 codes-back names facts (o ∷ os) = ap₂ ◌∷◌ (code-back names facts o) (codes-back names facts os)
 

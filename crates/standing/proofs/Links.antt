@@ -11,14 +11,14 @@ use Rattle.theory.specs.Term.{Kind, Term}
 use Rattle.rules.specs.State.{Added, State, definition_at, no_definition}
 use Rattle.texts.specs.Text.{Declarations, ref_head}
 use Rattle.context.specs.Holds.{Holds}
-use Rattle.store.specs.Store.{Store, first_at}
+use Rattle.store.specs.Store.{first_at}
+use Rattle.store.specs.declared.Store.{Store}
 use Rattle.context.specs.declared.Counts.{Counts}
 use Rattle.worlds.specs.Rows.{Row, body_of, brought_row, no_row}
 use Rattle.worlds.specs.World.{Link}
 use Rattle.worlds.proofs.Invariant.{Worlds, length-meanings}
 use Rattle.entering.specs.Implied.{implied_ref}
-use Rattle.entering.specs.declared.written.Writing.{Writing}
-use Rattle.entering.specs.declared.written.Writing.TheVariants.{Written, Unwritten}
+use Rattle.std.specs.Prelude.{Option as Answer, Some, None}
 use Rattle.entering.specs.Written.{written_at}
 use Rattle.standing.specs.Chained.{Chained, Own, Through}
 use Rattle.standing.specs.Grows.{Grows}
@@ -38,10 +38,10 @@ module _ (v : Store) (c : Counts) (s : State) (v' : Store) (c' : Counts) (holds 
             ∙ ap (itself p k) (ref-kept decls more (implied_ref v.names v.facts v.contexts v.heads owner x) i.below) ∙ i.same;
       }
 
-  stands-for : (owner p : ℕ) (k : Kind) (x : ℕ) (u : Term) → owner ≤ c.modules → (w : Writing) → StandsFor v file refs decls end owner p k x u w
+  stands-for : (owner p : ℕ) (k : Kind) (x : ℕ) (u : Term) → owner ≤ c.modules → (w : Answer ℕ) → StandsFor v file refs decls end owner p k x u w
       → StandsFor v' file refs' (decls ++ more) end' owner p k x u w
-  stands-for owner p k x u l (Written at) t = text-kept refs refs' decls more file end end' at u t same later
-  stands-for owner p k x u l Unwritten i = implied-shown owner p k x u l i
+  stands-for owner p k x u l (Some at) t = text-kept refs refs' decls more file end end' at u t same later
+  stands-for owner p k x u l None i = implied-shown owner p k x u l i
 
   declaration-kept : (q : ℕ) (k : Kind) (x : ℕ) → q < c.modules → Declaration v q k x → Declaration v' q k x
   declaration-kept q k x l d =

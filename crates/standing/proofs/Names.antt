@@ -3,24 +3,25 @@ use mathlib.Core.Bool.{Bool, ◌&&◌, cond, false, true}
 use mathlib.Core.List.{List, [], ◌++◌, ◌∷◌, append-nil}
 use mathlib.Core.Option.{Option, none, some}
 use mathlib.Core.Path.{◌∙◌, ◌≡◌, ap, ap₂, refl, subst, sym}
-use Prim.Native.Nat.{ℕ, ◌+◌, ◌*◌, ◌≤◌, ◌<◌}
+use Prim.Native.Nat.{ℕ, ◌+◌, ◌≤◌, ◌<◌}
 use native.Mathlib.Decide.{dec_lt}
-use native.Mathlib.Nat.{add-zero}
 use native.Mathlib.Omega.{arith}
 use lib.Dec.{eqb, leb, ltb}
 use lib.ListN.{get_or}
 use Rattle.limits.specs.Limits.{max_declarations, max_definitions}
-use Rattle.limits.specs.Sizes.{column_count}
 use Rattle.theory.specs.Lists.{All, find}
 use Rattle.theory.proofs.Lists.{find-has, map-all, none-some}
 use Rattle.rules.specs.State.{State}
 use Rattle.context.specs.Holds.{Holds, Known}
 use Rattle.context.specs.Lookup.{as_code, code_named, declared_named, declares_name, operator_at, operator_in}
 use Rattle.context.specs.Entries.{codes_of, variable_kind}
-use Rattle.store.specs.Store.{Store, count_at, first_at, kind_at, link_at, source_at, via_at}
+use Rattle.store.specs.Store.{count_at, first_at, kind_at, link_at, source_at, via_at}
+use Rattle.store.specs.declared.Store.{Store}
+use Rattle.store.specs.declared.Facts.{Facts}
 use Rattle.context.specs.declared.Counts.{Counts}
+use Rattle.std.specs.Prelude.{Option as Answer, Some, None}
 use Rattle.context.specs.declared.Operator.{Operator}
-use Rattle.context.specs.declared.Operator.TheVariants.{Constant, Variable, Defined, Unknown}
+use Rattle.context.specs.declared.Operator.TheVariants.{Constant, Variable, Defined}
 use Rattle.entering.specs.Implied.{implied_ref, number_of, ref_of}
 use Rattle.standing.specs.Grows.{Grows, RowsKept}
 
@@ -50,24 +51,22 @@ rows_of grows = record { names = grows.names; facts = grows.facts }
 
 module _ (v : Store) (c : Counts) (v' : Store) (rows : RowsKept v c v') (o : ℕ) (known : Known c.fields c.definitions o) where
   pub kind-kept : kind_at v'.facts o ≡ kind_at v.facts o
-  kind-kept =
-      ap (λ (i : ℕ). get_or v'.facts i 0) (sym (add-zero (column_count * o))) ∙ rows.facts o 0 known (omega arith)
-      ∙ ap (λ (i : ℕ). get_or v.facts i 0) (add-zero (column_count * o))
+  kind-kept = ap (λ (f : Facts). f.kind) (rows.facts o known)
 
   pub first-kept : first_at v'.facts o ≡ first_at v.facts o
-  first-kept = rows.facts o 1 known (omega arith)
+  first-kept = ap (λ (f : Facts). f.first) (rows.facts o known)
 
   pub count_kept : count_at v'.facts o ≡ count_at v.facts o
-  count_kept = rows.facts o 2 known (omega arith)
+  count_kept = ap (λ (f : Facts). f.count) (rows.facts o known)
 
   pub via-kept : via_at v'.facts o ≡ via_at v.facts o
-  via-kept = rows.facts o 3 known (omega arith)
+  via-kept = ap (λ (f : Facts). f.via) (rows.facts o known)
 
   pub source-kept : source_at v'.facts o ≡ source_at v.facts o
-  source-kept = rows.facts o 4 known (omega arith)
+  source-kept = ap (λ (f : Facts). f.source) (rows.facts o known)
 
   pub link-same : link_at v'.facts o ≡ link_at v.facts o
-  link-same = rows.facts o 5 known (omega arith)
+  link-same = ap (λ (f : Facts). f.link) (rows.facts o known)
 
   -- as a declaration, under a name, and as an operator
   declares-same : (x : ℕ) → declares_name v'.names v'.facts x o ≡ declares_name v.names v.facts x o
@@ -78,8 +77,8 @@ module _ (v : Store) (c : Counts) (v' : Store) (rows : RowsKept v c v') (o : ℕ
   number_same =
       ap₂ (λ (k f : ℕ). cond (leb max_definitions o && leb k variable_kind) (cond (ltb f max_declarations) f max_declarations) max_declarations) kind-kept first-kept
 
-  abbrev picks : Bool → Bool → Bool → ℕ → Operator
-  picks a b d k = cond a (Defined o) (cond b (Constant o k) (cond d (Variable o) Unknown))
+  abbrev picks : Bool → Bool → Bool → ℕ → Answer Operator
+  picks a b d k = cond a (Some (Defined o)) (cond b (Some (Constant o k)) (cond d (Some (Variable o)) None))
 
   ref-same : ref_of v'.facts (operator_at v'.facts o) ≡ ref_of v.facts (operator_at v.facts o)
   unfolding operator_at ref_of

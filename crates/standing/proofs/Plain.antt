@@ -9,7 +9,6 @@ use lib.ListN.{length}
 use Rattle.limits.specs.Limits.{file_bytes}
 use Rattle.rules.specs.Add.{add}
 use Rattle.rules.specs.Field.{Field, begin_module, end_module, extends}
-use Rattle.rules.specs.Judge.{judge}
 use Rattle.rules.specs.State.{State}
 use Rattle.laws.proofs.Origins.{declaration}
 use Rattle.tokens.specs.Token.{number_at}
@@ -17,7 +16,7 @@ use Rattle.agree.specs.Parts.{names_at}
 use Rattle.fields.specs.declared.Parts.{Parts}
 use Rattle.fields.specs.declared.Parts.TheVariants.{Module, Extends, EndModule}
 use Rattle.context.specs.Entries.{after_end, after_field, begun}
-use Rattle.store.specs.Store.{Store}
+use Rattle.store.specs.declared.Store.{Store}
 use Rattle.context.specs.declared.Counts.{Counts}
 use Rattle.worlds.specs.Rows.{Row, new_rows}
 use Rattle.judge_plain.proofs.Lifted.{end-field-law, module-field-law}
@@ -56,7 +55,7 @@ module _ (file : List ℕ) (x : Parts) (v v' : Store) (c : Counts) (p : Phase) (
       (same-below s.bytes refs) stands.refs_size)
 
 -- a part of the store that the field does not change
-part-kept : (g : Store → List ℕ) (w : ℕ) (v u : Store) → g u ≡ g v → g (kept w v u) ≡ g v
+part-kept : {A : Type 0} (g : Store → A) (w : ℕ) (v u : Store) → g u ≡ g v → g (kept w v u) ≡ g v
 unfolding kept
 part-kept g w v u e = go (eqb w 0)
   where
@@ -74,7 +73,7 @@ module _ (file : List ℕ) (v v' : Store) (p : Phase) (c : Counts) (r : Judged) 
         (module-field-law v c s stands.holds p stands.phase (room file fs s rs v c p refs words stands (Module n) f at) r n v' e h) refl refl refl;
   }
     where
-      still : (g : Store → List ℕ) → g (begun v c.modules n) ≡ g v → g v' ≡ g v
+      still : {A : Type 0} (g : Store → A) → g (begun v c.modules n) ≡ g v → g v' ≡ g v
       still g q = ap g h ∙ part-kept g (module_cause p c.modules v.heads n) v (begun v c.modules n) q
 
   -- end_field
@@ -86,7 +85,7 @@ module _ (file : List ℕ) (v v' : Store) (p : Phase) (c : Counts) (r : Judged) 
         (end-field-law v c s stands.holds p stands.phase (room file fs s rs v c p refs words stands EndModule f at) r stands.within v' e h) refl refl refl;
   }
     where
-      still : (g : Store → List ℕ) → g (begun v (c.modules + 1) 0) ≡ g v → g v' ≡ g v
+      still : {A : Type 0} (g : Store → A) → g (begun v (c.modules + 1) 0) ≡ g v → g v' ≡ g v
       still g q = ap g h ∙ part-kept g (end_cause p) v (begun v (c.modules + 1) 0) q
 
   -- extends_field

@@ -22,9 +22,8 @@ use Rattle.laws.proofs.Invariant.{Good}
 use Rattle.laws.proofs.Origins.{Origins}
 use Rattle.tokens.specs.Expr.{Expr, Exprs, Found, expr_at, found}
 use Rattle.tokens.specs.Limit.{counts_kept}
-use Rattle.tokens.specs.Token.{is_token, token_at}
 use Rattle.tokens.specs.declared.Token.{Token}
-use Rattle.tokens.specs.declared.Token.TheVariants.{Parameter, Bound, Name, InstanceOperator, BuiltIn, Literal, NoToken}
+use Rattle.tokens.specs.declared.Token.TheVariants.{Parameter, Bound, Name, InstanceOperator, BuiltIn, Literal}
 use Rattle.tokens.proofs.Places.{never as not-true}
 use Rattle.tokens.proofs.Writing.{Bytes}
 use Rattle.fields.specs.Substitution.{part}
@@ -39,13 +38,13 @@ use Rattle.texts.proofs.Noting.{AgreeFrom, noted-length, noteds-before}
 use Rattle.texts.proofs.Spans.{Span, SpanOf, Spans, span-found, span-rise, spans-rise}
 use Rattle.context.specs.Holds.{Holds, module_no}
 use Rattle.context.specs.Entries.{codes_of}
-use Rattle.store.specs.Store.{Store}
+use Rattle.store.specs.declared.Store.{Store}
 use Rattle.context.specs.declared.Counts.{Counts}
 use Rattle.resolve.specs.Look.{look_in}
 use Rattle.resolve.specs.Meaning.{Means}
 use Rattle.resolve.specs.Walk.{Looks, Notes, number_in, number_of}
+use Rattle.std.specs.Prelude.{Option as Answer, Some, None}
 use Rattle.resolve.specs.declared.Look.{Look}
-use Rattle.resolve.specs.declared.Look.TheVariants.{Ref, NoRef}
 use Rattle.resolve.proofs.Law.{Right, instance-law, name-law, walk-law}
 use Rattle.resolve.proofs.Numbers.{Declares, declarations_of}
 use Rattle.text_levels.proofs.OwnWorld.{AllRefsBelow, RefsBelow}
@@ -90,10 +89,10 @@ not-brought none x e = absurd (let z : ◌≡◌ {A = ℕ} 0 1 = cc in omega ari
 not-brought (some g) x e = absurd (let z : ◌≡◌ {A = ℕ} 0 1 = cc in omega arith)
 
 -- the number of an answer that is right is that of a definition or a declaration
-low-look : (s : State) (decls : Declarations) (l : Look) (h : Option Head) → Means s decls l h → (h ≡ some (declared variable 0) → ⊥)
+low-look : (s : State) (decls : Declarations) (l : Answer Look) (h : Option Head) → Means s decls l h → (h ≡ some (declared variable 0) → ⊥)
     → number_of l < max_definitions + length decls
-low-look s decls (Ref r k) h (e, q) never-so = past_head decls r (λ z. never-so (e ∙ ap some z))
-low-look s decls NoRef h e never-so = omega arith
+low-look s decls (Some l) h (e, q) never-so = past_head decls l.number (λ z. never-so (e ∙ ap some z))
+low-look s decls None h e never-so = omega arith
 
 -- Names noted below a bound are found below it.
 below-token : (look : Token → ℕ) (m : ℕ) (refs refs' : List ℕ) (at : ℕ) (t : Token) → at < length refs → (is_name t ≡ true → look t < m)
@@ -177,25 +176,24 @@ module _ (v : Store) (c : Counts) (s : State) (holds : Holds v c s) (fs : List F
   tree : (t : Expr) × (expr_at max_nesting file at ≡ found t (at + l)) × (as_tree t ≡ e)
   tree = expression-in-file file at l e room q max_nesting deep
 
-  low-token : (i : ℕ) (t : Token) → is_token t ≡ true → TokenFits (as_token t) → Low look (max_definitions + length decls) i t
-  low-token i (Parameter j) h f z = not-true z
-  low-token i (Bound j) h f z = not-true z
-  low-token i (Name y k) h f z =
+  low-token : (i : ℕ) (t : Token) → TokenFits (as_token t) → Low look (max_definitions + length decls) i t
+  low-token i (Parameter j) f z = not-true z
+  low-token i (Bound j) f z = not-true z
+  low-token i (Name y k) f z =
       low-look s decls (look_in v.names v.facts (codes_of v c.modules) (Name y k)) (operator_named (module_no s c.modules).context y)
       (name-law v c s holds fs declares origins good c.modules (omega arith) y k)
       (λ z. omega (arith, found_name (module_no s c.modules).context y 0 z, leb→le 1 y f.0.1))
-  low-token i (InstanceOperator y g k) h f z =
+  low-token i (InstanceOperator y g k) f z =
       low-look s decls (look_in v.names v.facts (codes_of v c.modules) (InstanceOperator y g k)) (head_of s (module_no s c.modules).context (as_token (InstanceOperator y g k)))
       (instance-law v c s holds fs declares origins good c.modules (omega arith) y g k (leb→le 1 y f.0.1))
       (λ z. not-brought (brought_named s (module_no s c.modules).context y g) 0 z)
-  low-token i (BuiltIn b) h f z = not-true z
-  low-token i (Literal y) h f z = not-true z
-  low-token i NoToken h f z = not-true h
+  low-token i (BuiltIn b) f z = not-true z
+  low-token i (Literal y) f z = not-true z
 
   low : AllTokens (Low look (max_definitions + length decls)) tree.0
   low =
       tokens-found file (Low look (max_definitions + length decls)) max_nesting at tree.0 (at + l) tree.1
-      (λ i a b h. low-token i (token_at file i) h (good-at file i bytes h).0)
+      (λ i a b t h. low-token i t (good-at file i bytes t h).0)
 
   notes : refs' ≡ noted look tree.0 refs
   unfolding Looks Notes

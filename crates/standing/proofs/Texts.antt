@@ -12,7 +12,7 @@ use Rattle.theory.specs.Term.{Kind, Term, declared, defined}
 use Rattle.theory.specs.Tree.{◌▹◌, map_trees, node, ⟨⟩}
 use Rattle.tokens.specs.Expr.{Expr, Exprs, Placed}
 use Rattle.tokens.specs.declared.Token.{Token}
-use Rattle.tokens.specs.declared.Token.TheVariants.{Parameter, Bound, Name, InstanceOperator, BuiltIn, Literal, NoToken}
+use Rattle.tokens.specs.declared.Token.TheVariants.{Parameter, Bound, Name, InstanceOperator, BuiltIn, Literal}
 use Rattle.texts.specs.Noted.{is_name}
 use Rattle.texts.specs.Text.{Declarations, no_declaration, ref_head, shown, token_head}
 use Rattle.texts.proofs.Spans.{Span, SpanOf, Spans, span-found, spans-rise}
@@ -47,7 +47,6 @@ module _ (refs refs' : List ℕ) (decls more : Declarations) where
   head-kept at (InstanceOperator i n k) e b = ap (ref_head (decls ++ more)) e ∙ ref-kept decls more (get_or refs at 0) (b refl)
   head-kept at (BuiltIn c) e b = refl
   head-kept at (Literal v) e b = refl
-  head-kept at NoToken e b = refl
 
   mutual
     shown-kept : (t : Expr) (lo hi : ℕ) → Span lo hi t → SameBelow hi refs refs' → RefsBelow (max_definitions + length decls) refs t

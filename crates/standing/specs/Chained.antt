@@ -3,7 +3,8 @@ use Rattle.std.specs.Prelude.{List, ◌⊎◌, ◌≡◌, ℕ, suc, ◌<◌, get
 use Rattle.rules.specs.State.{State, definition_at}
 use Rattle.texts.specs.Text.{Declarations}
 use Rattle.context.specs.Entries.{field_code}
-use Rattle.store.specs.Store.{Store, first_at, link_at, source_at}
+use Rattle.store.specs.Store.{first_at, link_at, source_at}
+use Rattle.store.specs.declared.Store.{Store}
 use Rattle.context.specs.declared.Counts.{Counts}
 use Rattle.worlds.specs.Rows.{Row, body_of, brought_row, no_row}
 use Rattle.worlds.specs.World.{In, Link, brings}

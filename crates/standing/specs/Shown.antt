@@ -9,14 +9,14 @@ use Rattle.tokens.specs.Limit.{counts_kept}
 use Rattle.texts.specs.Text.{Declarations, ref_head, shown}
 use Rattle.context.specs.Lookup.{declared_named}
 use Rattle.context.specs.Entries.{codes_of, instance_kind, order_of}
-use Rattle.store.specs.Store.{Store, first_at, kind_at, link_at, source_at, via_at}
+use Rattle.store.specs.Store.{first_at, kind_at, link_at, source_at, via_at}
+use Rattle.store.specs.declared.Store.{Store}
 use Rattle.context.specs.declared.Counts.{Counts}
 use Rattle.text_levels.proofs.OwnWorld.{RefsBelow}
 use Rattle.worlds.specs.World.{Link}
 use Rattle.entering.specs.Implied.{implied_ref}
 use Rattle.entering.specs.Written.{written_at}
-use Rattle.entering.specs.declared.written.Writing.{Writing}
-use Rattle.entering.specs.declared.written.Writing.TheVariants.{Written, Unwritten}
+use Rattle.std.specs.Prelude.{Option as Answer, Some, None}
 use Rattle.entering.proofs.Outset.{kind_number}
 
 -- The text at a position, which ends before `end`, keeps the limits; its names are noted in refs; so read, it is the term u.
@@ -35,9 +35,9 @@ pub record ImpliedShown (v : Store) (decls : Declarations) (owner p : ℕ) (k : 
   pub same : itself p k (ref_head decls (implied_ref v.names v.facts v.contexts v.heads owner x)) ≡ u
 
 -- u stands for the declared name x: it is written, or implied
-abbrev pub StandsFor : Store → List ℕ → List ℕ → Declarations → ℕ → ℕ → ℕ → Kind → ℕ → Term → Writing → Type 0
-StandsFor v file refs decls end owner p k x u (Written at) = TextShown file refs decls end at u
-StandsFor v file refs decls end owner p k x u Unwritten = ImpliedShown v decls owner p k x u
+abbrev pub StandsFor : Store → List ℕ → List ℕ → Declarations → ℕ → ℕ → ℕ → Kind → ℕ → Term → Answer ℕ → Type 0
+StandsFor v file refs decls end owner p k x u (Some at) = TextShown file refs decls end at u
+StandsFor v file refs decls end owner p k x u None = ImpliedShown v decls owner p k x u
 
 -- module q declares the name x, of kind k
 pub record Declaration (v : Store) (q : ℕ) (k : Kind) (x : ℕ) : Type 0 where

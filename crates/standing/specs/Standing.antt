@@ -23,7 +23,8 @@ use Rattle.worlds.proofs.Depth.{Depths}
 use Rattle.worlds.proofs.Invariant.{Worlds}
 use Rattle.texts.specs.Text.{Declarations, no_declaration}
 use Rattle.context.specs.Holds.{Holds}
-use Rattle.store.specs.Store.{Store, context_slot, kind_at, order_slot}
+use Rattle.store.specs.Store.{context_slot, kind_at, order_slot}
+use Rattle.store.specs.declared.Store.{Store}
 use Rattle.context.specs.declared.Counts.{Counts}
 use Rattle.levels.specs.Tables.{scene_of, table_words}
 use Rattle.text_levels.proofs.OwnWorld.{Shows}

@@ -6,35 +6,10 @@ use lib.Seq.{get_or-set_other}
 use native.Mathlib.Omega.{arith}
 use Prim.Native.Nat.{◌*◌, ◌+◌, ◌<◌, ℕ}
 use Rattle.limits.specs.Limits.{max_definitions}
-use Rattle.limits.specs.Sizes.{code_count, column_count, context_length, facts_length}
-use Rattle.store.proofs.Regions.{fact-put, name-put}
-use Rattle.store.specs.Store.{Store, context_slot, facts_from, held, order_slot, row, row_at}
-use Rattle.store.specs.Updates.{grown, headed, in_both, in_context, in_order, longer, stored, with_contexts, with_heads, with_orders, with_row}
-use Rattle.store.specs.declared.Facts.{Facts}
-
-pub row_read : (v : Store) (o a b c d e f : ℕ) → a ≡ get_or v.facts (column_count * o) 0 → b ≡ get_or v.facts (column_count * o + 1) 0 → c ≡ get_or v.facts (column_count * o + 2) 0
-    → d ≡ get_or v.facts (column_count * o + 3) 0 → e ≡ get_or v.facts (column_count * o + 4) 0 → f ≡ get_or v.facts (column_count * o + 5) 0 → row a b c d e f ≡ row_at v o
-row_read v o a b c d e f p q r s t u = λ x. row (p x) (q x) (r x) (s x) (t x) (u x)
-
-pub row_put : (s : List ℕ) (o name : ℕ) (r : Facts) → o < code_count
-    → held
-    (set (set (set (set (set (set (set s o name) (facts_from + column_count * o) r.kind) (facts_from + (column_count * o + 1)) r.first) (facts_from + (column_count * o + 2)) r.count)
-    (facts_from + (column_count * o + 3)) r.via) (facts_from + (column_count * o + 4)) r.source) (facts_from + (column_count * o + 5)) r.link)
-    ≡ with_row (held s) o name r
-unfolding stored
-row_put s o name r h =
-    rw (
-      fact-put _ _ _ (small 5 (omega arith)),
-      fact-put _ _ _ (small 4 (omega arith)),
-      fact-put _ _ _ (small 3 (omega arith)),
-      fact-put _ _ _ (small 2 (omega arith)),
-      fact-put _ _ _ (small 1 (omega arith)),
-      fact-put _ (column_count * o) _ (omega arith),
-      name-put s o name h,
-    ) refl
-  where
-    small : (k : ℕ) → k < column_count → column_count * o + k < facts_length
-    small k l = omega arith
+use Rattle.limits.specs.Sizes.{context_length}
+use Rattle.store.specs.Store.{context_slot, order_slot}
+use Rattle.store.specs.Updates.{grown, headed, in_both, in_context, in_order, longer, with_contexts, with_heads, with_orders}
+use Rattle.store.specs.declared.Store.{Store}
 
 pub begun-at : (v v₁ v₂ v₃ : Store) (m name : ℕ) → v₁ ≡ with_heads v (set v.heads m name) → v₂ ≡ with_heads v₁ (set v₁.heads (context_slot m) 0)
     → v₃ ≡ with_heads v₂ (set v₂.heads (order_slot m) 0) → v₃ ≡ with_heads v (headed v.heads m name)

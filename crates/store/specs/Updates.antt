@@ -1,14 +1,15 @@
--- The store with something anew: one region, then what additions write. What is said by these says of every other region that it stays.
+-- The store with something anew: one array, then what additions write. What is said by these says of every other array that it stays.
 use Rattle.std.specs.Prelude.{List, ℕ, ◌+◌, ◌*◌, get_or, set}
 use Rattle.limits.specs.Limits.{max_definitions}
-use Rattle.limits.specs.Sizes.{column_count, context_length}
-use Rattle.store.specs.Store.{Store, context_slot, order_slot}
+use Rattle.limits.specs.Sizes.{context_length}
+use Rattle.store.specs.Store.{context_slot, order_slot}
 use Rattle.store.specs.declared.Facts.{Facts}
+use Rattle.store.specs.declared.Store.{Store}
 
 abbrev pub with_names : Store → List ℕ → Store
 with_names v l = record { names = l; facts = v.facts; contexts = v.contexts; orders = v.orders; heads = v.heads; declared = v.declared }
 
-abbrev pub with_facts : Store → List ℕ → Store
+abbrev pub with_facts : Store → List Facts → Store
 with_facts v l = record { names = v.names; facts = l; contexts = v.contexts; orders = v.orders; heads = v.heads; declared = v.declared }
 
 abbrev pub with_contexts : Store → List ℕ → Store
@@ -23,15 +24,9 @@ with_heads v l = record { names = v.names; facts = v.facts; contexts = v.context
 abbrev pub with_declared : Store → List ℕ → Store
 with_declared v l = record { names = v.names; facts = v.facts; contexts = v.contexts; orders = v.orders; heads = v.heads; declared = l }
 
--- the facts of code o,
-unfoldable pub stored : List ℕ → ℕ → Facts → List ℕ
-stored facts o r =
-    set (set (set (set (set (set facts (column_count * o) r.kind) (column_count * o + 1) r.first) (column_count * o + 2) r.count)
-    (column_count * o + 3) r.via) (column_count * o + 4) r.source) (column_count * o + 5) r.link
-
--- its name and its facts,
+-- the name and the facts of code o,
 abbrev pub with_row : Store → ℕ → ℕ → Facts → Store
-with_row v o name r = with_facts (with_names v (set v.names o name)) (stored v.facts o r)
+with_row v o name r = with_facts (with_names v (set v.names o name)) (set v.facts o r)
 
 -- the head of module m, its lists empty,
 unfoldable pub headed : List ℕ → ℕ → ℕ → List ℕ

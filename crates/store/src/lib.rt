@@ -1,9 +1,11 @@
-// What the fields read so far have added, in one lent array of 16-bit numbers. Nobody else knows where a region stands: contracts speak of `held`.
+// What the fields read so far have added: an array of 16-bit numbers for each role, all of a fixed size.
 #![tactic(auto)]
 
-pub mod lending;
-pub mod reading;
-pub mod writing;
+mod reading;
+mod writing;
+
+ghost use Rattle.std.specs.Prelude.{◌≡◌};
+ghost use Rattle.store.specs.Store.{empty};
 
 use limits::Limits;
 
@@ -18,22 +20,43 @@ pub struct Facts {
     pub link: u16,
 }
 
-// Where the regions begin, and the length of the array.
+impl Facts {
+    // nothing is kept
+    const NONE: Facts = Facts {
+        kind: 0,
+        first: 0,
+        count: 0,
+        via: 0,
+        source: 0,
+        link: 0,
+    };
+}
+
+// specs/Store.antt says what each array holds.
 #[derive(Drop)]
-pub struct Store;
+pub struct Store {
+    names: [u16; Limits::CODES],
+    facts: [Facts; Limits::CODES],
+    contexts: [u16; Limits::CONTEXTS],
+    orders: [u16; Limits::ORDERS],
+    heads: [u16; Limits::HEADS],
+    declared: [u16; Limits::DECLARATIONS],
+}
 
 impl Store {
-    pub const FACTS: usize = Limits::CODES;
-
-    pub const CONTEXTS: usize = Store::FACTS + Limits::FACTS;
-
-    pub const ORDERS: usize = Store::CONTEXTS + Limits::CONTEXTS;
-
-    pub const HEADS: usize = Store::ORDERS + Limits::ORDERS;
-
-    pub const DECLARED: usize = Store::HEADS + Limits::HEADS;
-
-    pub const LENGTH: usize = Limits::STORE;
+    // Nothing was added.
+    pub fn empty() -> Store
+        ensures { result ≡ empty }
+    {
+        Store {
+            names: [0; Limits::CODES],
+            facts: [Facts::NONE; Limits::CODES],
+            contexts: [0; Limits::CONTEXTS],
+            orders: [0; Limits::ORDERS],
+            heads: [0; Limits::HEADS],
+            declared: [0; Limits::DECLARATIONS],
+        }
+    }
 }
 
 // The other arrays of a fixed size. A check lends what the names of the file's texts mean, by position, and the form of each definition and of

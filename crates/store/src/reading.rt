@@ -1,78 +1,95 @@
-// Words by region, 0 past its end.
-ghost use Rattle.std.specs.Prelude.{◌≡◌, ◌<◌, get_or};
-ghost use Rattle.store.specs.Store.{held, row_at};
+// Words by role, 0 past the end.
+ghost use Rattle.std.specs.Prelude.{◌≡◌, get_or};
+ghost use Rattle.store.specs.Store.{count_at, first_at, kind_at, link_at, no_facts, source_at, via_at};
 
 use crate::{Facts, Store};
-use limits::Limits;
 
-pub fn name_at(store: &[u16; Store::LENGTH], i: usize) -> u16
-    ensures { result ≡ get_or (held store.now).names i 0 }
+// What stands at a place, or what is given for past the end.
+fn at<T: Copy>(list: &[T], i: usize, past: T) -> T
+    ensures { result ≡ get_or list.now i past }
 {
-    if i < Limits::CODES { store[i] } else { 0 }
+    if i < list.len() { list[i] } else { past }
 }
 
-pub fn fact_at(store: &[u16; Store::LENGTH], i: usize) -> u16
-    ensures { result ≡ get_or (held store.now).facts i 0 }
-{
-    if i < Limits::FACTS {
-        store[Store::FACTS + i]
-    } else {
-        0
+impl Store {
+    pub fn name_at(&self, i: usize) -> u16
+        ensures { result ≡ get_or self.now.names i 0 }
+    {
+        at(&self.names, i, 0)
     }
-}
 
-pub fn context_at(store: &[u16; Store::LENGTH], i: usize) -> u16
-    ensures { result ≡ get_or (held store.now).contexts i 0 }
-{
-    if i < Limits::CONTEXTS {
-        store[Store::CONTEXTS + i]
-    } else {
-        0
+    // What is kept of code o,
+    pub fn facts_at(&self, o: usize) -> Facts
+        ensures { result ≡ get_or self.now.facts o no_facts }
+    {
+        at(&self.facts, o, Facts::NONE)
     }
-}
 
-pub fn order_at(store: &[u16; Store::LENGTH], i: usize) -> u16
-    ensures { result ≡ get_or (held store.now).orders i 0 }
-{
-    if i < Limits::ORDERS {
-        store[Store::ORDERS + i]
-    } else {
-        0
+    // and each by itself.
+    pub fn kind_at(&self, o: usize) -> u16
+        ensures { result ≡ kind_at self.now.facts o }
+    {
+        self.facts_at(o).kind
     }
-}
 
-pub fn head_at(store: &[u16; Store::LENGTH], i: usize) -> u16
-    ensures { result ≡ get_or (held store.now).heads i 0 }
-{
-    if i < Limits::HEADS {
-        store[Store::HEADS + i]
-    } else {
-        0
+    pub fn first_at(&self, o: usize) -> u16
+        ensures { result ≡ first_at self.now.facts o }
+    {
+        self.facts_at(o).first
     }
-}
 
-pub fn declared_at(store: &[u16; Store::LENGTH], i: usize) -> u16
-    ensures { result ≡ get_or (held store.now).declared i 0 }
-{
-    if i < Limits::DECLARATIONS {
-        store[Store::DECLARED + i]
-    } else {
-        0
+    pub fn count_at(&self, o: usize) -> u16
+        ensures { result ≡ count_at self.now.facts o }
+    {
+        self.facts_at(o).count
     }
-}
 
-// What is kept of code o.
-pub fn facts_at(store: &[u16; Store::LENGTH], o: usize) -> Facts
-    requires { o < 65536 }
-    ensures { result ≡ row_at (held store.now) o }
-{
-    let at = Limits::COLUMNS * o;
-    Facts {
-        kind: fact_at(store, at),
-        first: fact_at(store, at + 1),
-        count: fact_at(store, at + 2),
-        via: fact_at(store, at + 3),
-        source: fact_at(store, at + 4),
-        link: fact_at(store, at + 5),
+    pub fn via_at(&self, o: usize) -> u16
+        ensures { result ≡ via_at self.now.facts o }
+    {
+        self.facts_at(o).via
+    }
+
+    pub fn source_at(&self, o: usize) -> u16
+        ensures { result ≡ source_at self.now.facts o }
+    {
+        self.facts_at(o).source
+    }
+
+    pub fn link_at(&self, o: usize) -> u16
+        ensures { result ≡ link_at self.now.facts o }
+    {
+        self.facts_at(o).link
+    }
+
+    pub fn context_at(&self, i: usize) -> u16
+        ensures { result ≡ get_or self.now.contexts i 0 }
+    {
+        at(&self.contexts, i, 0)
+    }
+
+    pub fn order_at(&self, i: usize) -> u16
+        ensures { result ≡ get_or self.now.orders i 0 }
+    {
+        at(&self.orders, i, 0)
+    }
+
+    pub fn head_at(&self, i: usize) -> u16
+        ensures { result ≡ get_or self.now.heads i 0 }
+    {
+        at(&self.heads, i, 0)
+    }
+
+    pub fn declared_at(&self, i: usize) -> u16
+        ensures { result ≡ get_or self.now.declared i 0 }
+    {
+        at(&self.declared, i, 0)
+    }
+
+    // The names lent as a slice: of its numbers it is known that they have 16 bits, of those of an array it is not.
+    pub fn names(&self) -> &[u16]
+        ensures { result.now ≡ self.now.names }
+    {
+        &self.names
     }
 }

@@ -1,9 +1,11 @@
 -- The cases of the parts of a step in the string.
+use Rattle.std.specs.Prelude.{Err, None, Ok, Option, Result, Some, SomeIff}
+use Rattle.std.proofs.lemmas.Option.{none-some, same_Some}
 use mathlib.Core.Bool.{Bool, ◌||◌, false, true}
 use mathlib.Core.List.{List, [], ◌∷◌}
 use mathlib.Core.Logic.{◌⊎◌, inl, inr}
 use mathlib.Core.Path.{◌≡◌, ◌∙◌, ap, ap₂, refl, subst, sym}
-use borrow.Author.Tests.{eq-eqb, ltb-false, ltb-true, ne_eqb}
+use borrow.Author.Tests.{eq-eqb, ltb-false, ne_eqb}
 use lib.Dec.{ltb}
 use lib.ListN.{drop, get_or, length, length-set, set}
 use lib.Seq.{get_or-set_other, get_or-set_same, length-sets, sets}
@@ -11,11 +13,9 @@ use native.Mathlib.Nat.{add_assoc, mul-le-mul_left}
 use native.Mathlib.Numerals.{add-one}
 use native.Mathlib.Omega.{arith}
 use Prim.Native.Nat.{ℕ, zero, suc, ◌+◌, ◌-◌, ◌*◌, ◌%◌, ◌^◌, ◌≤◌, ◌<◌}
-use Rattle.theory.proofs.Lists.{never}
 use Rattle.symbols.specs.Symbol.{Symbol, begin, bytes_of, call, code, is_wide, name, number, par, size, var, wide}
 use Rattle.strings.specs.Laid.{Laid}
 use Rattle.strings.specs.Read.{is_far, symbol_of}
-use Rattle.strings.specs.declared.Filled.{Filled}
 use Rattle.strings.specs.declared.Sign.{Sign}
 use Rattle.strings.specs.declared.Sign.TheVariants.{Begin, Call, Code, End, Name, Number, Par, Var}
 use Rattle.shifting.proofs.Shifting.{shift-one-calls}
@@ -24,11 +24,12 @@ use Rattle.cells.proofs.Words.{cell-inside}
 use Rattle.cells.specs.Table.{Sized}
 use Rattle.cells.specs.Words.{four, word_at}
 use Rattle.cells.specs.declared.Layout.{Layout}
-use Rattle.streaming.specs.Here.{EntersCall, Opens, Passes, PassesHere, WritesHere, entered, leaving, shifted_index, written}
-use Rattle.streaming.specs.declared.Depth.{Depth}
+use Rattle.streaming.specs.Here.{EntersCall, Opens, Passes, PassesHere, WritesHere, entered, leaving, shifted_index}
 use Rattle.streaming.specs.declared.Now.{Now}
+use Rattle.streaming.specs.declared.Fault.{Fault}
 use Rattle.streaming.specs.declared.Stepped.{Stepped}
-use Rattle.streaming.specs.declared.Stepped.TheVariants.{Finished, Lost, On, Short}
+use Rattle.streaming.specs.declared.Stepped.TheVariants.{Finished, On}
+use Rattle.streaming.specs.declared.Fault.TheVariants.{Lost, Short}
 use Rattle.symbols.specs.Spell.{max_params}
 
 -- what is noted of the brackets open, by position
@@ -89,23 +90,28 @@ module _ (env : List ℕ) where
         omega arith
 
   -- a bracket opened, closed, or neither
-  pub opens-begin : (b d : ℕ) (r : Depth) → d < length env → r.count ≡ d + 1 → Opens begin b d env (set env d b) r
-  opens-begin b d r l e =
+  pub opens-begin : (b d : ℕ) → d < length env → Opens begin b d env (set env d b) (Some (d + 1))
+  opens-begin b d l =
       let h = length-set env d b in
-      record { long = h; yes = λ o. (rw (e, add-one d) (ap₂ (λ (v : ℕ) (es : List ℕ). v ∷ es) (get_or-set_same env d b 0 l) (noted-set d d b (omega arith))), omega arith) }
+      record {
+        long = h;
+        yes = λ k e.
+            rw (← same_Some (d + 1) k e)
+            (rw (add-one d) (ap₂ (λ (v : ℕ) (es : List ℕ). v ∷ es) (get_or-set_same env d b 0 l) (noted-set d d b (omega arith))), omega arith);
+      }
 
-  pub opens-lost : (g : Symbol) (b d : ℕ) (r : Depth) → r.ok ≡ false → Opens g b d env env r
-  opens-lost g b d r e = record { long = refl; yes = λ o. never (sym o ∙ e) }
+  pub opens-lost : (g : Symbol) (b d : ℕ) → Opens g b d env env None
+  opens-lost g b d = record { long = refl; yes = λ k e. absurd (none-some k e) }
 
-  pub opens-none : (g : Sign) (b d : ℕ) (r : Depth) → d ≤ length env → r.count ≡ d → opened_by b (noted env d) (symbol_of g) ≡ noted env d
-      → Opens (symbol_of g) b d env env r
-  opens-none g b d r l e f = record { long = refl; yes = λ o. (ap (noted env) e ∙ sym f, omega arith) }
+  pub opens-none : (g : Sign) (b d : ℕ) → d ≤ length env → opened_by b (noted env d) (symbol_of g) ≡ noted env d → Opens (symbol_of g) b d env env (Some d)
+  opens-none g b d l f = record { long = refl; yes = λ k e. rw (← same_Some d k e) (sym f, l) }
 
-  pub opens-end : (g : Sign) (b d : ℕ) (r : Depth) → d ≤ length env → g ≡ End → r.ok ≡ ltb 0 d → r.count ≡ d - 1 → Opens (symbol_of g) b d env env r
-  opens-end g b d r l e f h =
-      record { long = refl; yes = λ o. (ap (noted env) h ∙ rw e (noted-less d (ltb-true 0 d (sym f ∙ o))), omega arith) }
+  pub opens-end : (g : Sign) (b d : ℕ) (r : Option ℕ) → d ≤ length env → g ≡ End → SomeIff r (1 ≤ d) (d - 1) → Opens (symbol_of g) b d env env r
+  opens-end g b d None l e h = opens-lost (symbol_of g) b d
+  opens-end g b d (Some x) l e h =
+      record { long = refl; yes = λ k o. rw (← same_Some x k o) (ap (noted env) h.1 ∙ rw e (noted-less d (omega (arith, h.0))), omega (arith, h.1)) }
 
-pub opens-same : (g : Sign) (b d : ℕ) (env env' : List ℕ) (r : Depth) → g ≡ Begin → Opens begin b d env env' r → Opens (symbol_of g) b d env env' r
+pub opens-same : (g : Sign) (b d : ℕ) (env env' : List ℕ) (r : Option ℕ) → g ≡ Begin → Opens begin b d env env' r → Opens (symbol_of g) b d env env' r
 opens-same g b d env env' r e o = rw e o
 
 module _ (E : List ℕ) (g : Sign) (b : ℕ) where
@@ -127,13 +133,13 @@ module _ (E : List ℕ) (g : Sign) (b : ℕ) where
   pub opened-call : {n : ℕ} → g ≡ Call n → opened_by b E (symbol_of g) ≡ E
   opened-call e = rw e
 
-pub opens-here : (g : Symbol) (b d : ℕ) (env env' : List ℕ) (o : Depth) → Opens g b d env env' o → o.ok ≡ true
-    → noted env' o.count ≡ opened_by b (noted env d) g
-opens-here g b d env env' o h k = (h.yes k).0
+pub opens-here : (g : Symbol) (b d : ℕ) (env env' : List ℕ) (o : Option ℕ) → Opens g b d env env' o → (c : ℕ) → o ≡ Some c
+    → noted env' c ≡ opened_by b (noted env d) g
+opens-here g b d env env' o h c k = (h.yes c k).0
 
-pub opens-within : (g : Symbol) (b d : ℕ) (env env' : List ℕ) (o : Depth) → Opens g b d env env' o → o.ok ≡ true → o.count ≤ length env'
-opens-within g b d env env' o h k =
-    let v = (h.yes k).1 in
+pub opens-within : (g : Symbol) (b d : ℕ) (env env' : List ℕ) (o : Option ℕ) → Opens g b d env env' o → (c : ℕ) → o ≡ Some c → c ≤ length env'
+opens-within g b d env env' o h c k =
+    let v = (h.yes c k).1 in
     omega (arith, h.long)
 
 -- a test that failed, of what it tested
@@ -149,11 +155,11 @@ module _ (g : Symbol) (called : Bool) (known : ℕ) (env out : List ℕ) (s : No
       → is_wide h ≡ false
   shifted-narrow h w e f u = rw e (sym f ∙ u)
 
-  pub short-wide : (w : Bool) → w ≡ is_wide (shift_one (noted env s.d) s.b g) → w ≡ true → WritesHere g called known env out s env out Short
+  pub short-wide : (w : Bool) → w ≡ is_wide (shift_one (noted env s.d) s.b g) → w ≡ true → WritesHere g called known env out s env out (Err Short)
   short-wide w e f = (refl, inr (sym e ∙ f))
 
-  pub short-room : (h : Symbol) (out' : List ℕ) (f : Filled) → h ≡ shift_one (noted env s.d) s.b g → Laid (h ∷ []) s.q out out' f → f.fits ≡ false
-      → WritesHere g called known env out s env out' Short
+  pub short-room : (h : Symbol) (out' : List ℕ) (f : Option ℕ) → h ≡ shift_one (noted env s.d) s.b g → Laid (h ∷ []) s.q out out' f → f ≡ None
+      → WritesHere g called known env out s env out' (Err Short)
   short-room h out' f e l u =
       (l.long, subst (λ (k : Symbol). (length out < s.q + size (k ∷ [])) ⊎ (is_wide k ≡ true)) e (go (l.no u)))
     where
@@ -165,19 +171,20 @@ module _ (g : Symbol) (called : Bool) (known : ℕ) (env out : List ℕ) (s : No
       go (inl k) = inl k
       go (inr k) = inr (sym (only (is_wide h)) ∙ k)
 
-  pub writes : (h : Symbol) (env' out' : List ℕ) (f : Filled) (r : Stepped) → h ≡ shift_one (noted env s.d) s.b g → Laid (h ∷ []) s.q out out' f
-      → f.fits ≡ true → PassesHere g called known env s f.len env' r → WritesHere g called known env out s env' out' r
-  writes h env' out' f (On t) e l u w =
-      let y = l.yes u in
+  pub writes : (h : Symbol) (env' out' : List ℕ) (f : Option ℕ) (q : ℕ) (r : Result Stepped Fault) → h ≡ shift_one (noted env s.d) s.b g → Laid (h ∷ []) s.q out out' f
+      → f ≡ Some q → PassesHere g called known env s q env' r → WritesHere g called known env out s env' out' r
+  writes h env' out' f q (Ok (On t)) e l u w =
+      let y = l.yes q u in
+      let i = l.within q u in
       record {
         long = l.long;
-        room = omega (arith, w.q, l.within);
+        room = omega (arith, w.q, i);
         put = y.1 ∙ ap (λ (m : Symbol). sets out s.q (bytes_of (m ∷ []))) e;
         passes = subst (λ (q : ℕ). Passes g called known env s q env' t) (y.0 ∙ ap (λ (m : Symbol). s.q + size (m ∷ [])) e) w;
       }
-  writes h env' out' f (Finished len) e l u w = w
-  writes h env' out' f Short e l u w = absurd w
-  writes h env' out' f Lost e l u w = tt
+  writes h env' out' f q (Ok (Finished len)) e l u w = w
+  writes h env' out' f q (Err Short) e l u w = absurd w
+  writes h env' out' f q (Err Lost) e l u w = tt
 
 -- the words of a call
 module _ (l : Layout) (r : ℕ) (few : l.places ≤ max_params) (wide : l.stride ≡ l.places + 3) (small : r < 2 ^ 21) where

@@ -1,4 +1,5 @@
 -- A step in the string: a symbol written, a call entered, a part left.
+use Rattle.std.specs.Prelude.{Err, Ok, Result}
 use mathlib.Core.Bool.{Bool, ◌||◌, cond, false, true}
 use mathlib.Core.List.{List, [], ◌++◌, ◌∷◌, append_assoc, append-nil}
 use mathlib.Core.Logic.{◌⊎◌, inl, inr}
@@ -39,8 +40,10 @@ use Rattle.streaming.specs.Course.{Around, Chain, Frame, InString, InTemplate, L
 use Rattle.streaming.specs.Here.{EntersCall, Writes, WritesHere, entered, leaving, returned, written}
 use Rattle.streaming.specs.Step.{Read, Sane, StepsHere, Written}
 use Rattle.streaming.specs.declared.Now.{Now}
+use Rattle.streaming.specs.declared.Fault.{Fault}
 use Rattle.streaming.specs.declared.Stepped.{Stepped}
-use Rattle.streaming.specs.declared.Stepped.TheVariants.{Finished, Lost, On, Short}
+use Rattle.streaming.specs.declared.Stepped.TheVariants.{Finished, On}
+use Rattle.streaming.specs.declared.Fault.TheVariants.{Lost, Short}
 
 -- calls counted, a symbol more
 tally-next : (n : ℕ) (gs : List Symbol) (g : Symbol) → tally n (gs ++ (g ∷ [])) ≡ tally n gs + cond (calls (eqb n) g) 1 0
@@ -381,10 +384,10 @@ module _ (x : Task) (a template : List ℕ) (tlen : ℕ) (shapes : List ℕ) (n 
             (call-is n q (ap (calls (eqb n)) (sym (first q more h)) ∙ y)) (enter-on low small under more) h k v
 
 module _ (a : List ℕ) (n : ℕ) (l : Layout) (known : ℕ) (table env out : List ℕ) (s : Now) (fine : Sane env out s) where
-  pub leaves-part : (r : Stepped) → s.e ≤ s.p → r ≡ leaving l table s → StepsHere a n l known table env out s table env out r
+  pub leaves-part : (r : Stepped) → s.e ≤ s.p → r ≡ leaving l table s → StepsHere a n l known table env out s table env out (Ok r)
   leaves-part r done e =
-      subst⁻¹ (λ (r : Stepped). StepsHere a n l known table env out s table env out r) e
-      (cond_cases (λ (r : Stepped). StepsHere a n l known table env out s table env out r) (eqb s.top 0)
+      subst⁻¹ (λ (r : Stepped). StepsHere a n l known table env out s table env out (Ok r)) e
+      (cond_cases (λ (r : Stepped). StepsHere a n l known table env out s table env out (Ok r)) (eqb s.top 0)
       (λ t.
       record {
         steps = λ template tlen shapes.
@@ -418,11 +421,11 @@ module _ (a : List ℕ) (n : ℕ) (l : Layout) (known : ℕ) (table env out : Li
   -- a symbol stands where the part has not ended
   module _ (room : known ≤ l.room) (most : l.room ≤ 16383) (here : s.p < s.e) (g : Symbol) (reads : g ≡ symbol_at a s.p) where
     pub enters-call : (called : Bool) (table' : List ℕ) (t : Now) → called ≡ calls (eqb n) g → called ≡ true → s.rank < known → EntersCall l table s table' t
-        → StepsHere a n l known table env out s table' env out (On t)
+        → StepsHere a n l known table env out s table' env out (Ok (On t))
     unfolding two
     enters-call called table' t e y low w =
-        subst⁻¹ (λ (t : Now). StepsHere a n l known table env out s table' env out (On t)) w.goes
-        (subst⁻¹ (λ (m : List ℕ). StepsHere a n l known table env out s m env out (On (entered s))) w.put
+        subst⁻¹ (λ (t : Now). StepsHere a n l known table env out s table' env out (Ok (On t))) w.goes
+        (subst⁻¹ (λ (m : List ℕ). StepsHere a n l known table env out s m env out (Ok (On (entered s)))) w.put
         (record {
           steps = λ template tlen shapes.
               record {
@@ -447,9 +450,9 @@ module _ (a : List ℕ) (n : ℕ) (l : Layout) (known : ℕ) (table env out : Li
               inside = omega arith;
             }
 
-    pub writes-symbol : (called : Bool) (env' out' : List ℕ) (r : Stepped) → called ≡ calls (eqb n) g → WritesHere g called known env out s env' out' r
+    pub writes-symbol : (called : Bool) (env' out' : List ℕ) (r : Result Stepped Fault) → called ≡ calls (eqb n) g → WritesHere g called known env out s env' out' r
         → StepsHere a n l known table env out s table env' out' r
-    writes-symbol called env' out' (On t) e w =
+    writes-symbol called env' out' (Ok (On t)) e w =
         record {
           steps = λ template tlen shapes.
               record {
@@ -475,8 +478,8 @@ module _ (a : List ℕ) (n : ℕ) (l : Layout) (known : ℕ) (table env out : Li
               top = omega (arith, w.passes.top, fine.top);
               inside = omega (arith, w.passes.tp, fine.inside);
             }
-    writes-symbol called env' out' (Finished len) e w = absurd w
-    writes-symbol called env' out' Short e w =
+    writes-symbol called env' out' (Ok (Finished len)) e w = absurd w
+    writes-symbol called env' out' (Err Short) e w =
         record {
           steps = λ template tlen shapes.
               record {
@@ -484,4 +487,4 @@ module _ (a : List ℕ) (n : ℕ) (l : Layout) (known : ℕ) (table env out : Li
                 on = λ x d u. subst⁻¹ (Over x) w.0 (over-here x a template tlen shapes n l known table env out s d u g here reads w.1);
               };
         }
-    writes-symbol called env' out' Lost e w = record { steps = λ template tlen shapes. record { sane = tt; on = λ x d u. tt } }
+    writes-symbol called env' out' (Err Lost) e w = record { steps = λ template tlen shapes. record { sane = tt; on = λ x d u. tt } }

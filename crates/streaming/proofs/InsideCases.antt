@@ -1,4 +1,5 @@
 -- What the functions of a step in the template give, on plain values.
+use Rattle.std.specs.Prelude.{None, Option, Result, Some}
 use mathlib.Core.Bool.{Bool, ◌||◌, false, true}
 use mathlib.Core.List.{List, [], ◌∷◌}
 use mathlib.Core.Logic.{◌⊎◌, inl, inr}
@@ -13,7 +14,6 @@ use Rattle.symbols.specs.Spell.{max_params}
 use Rattle.symbols.specs.Symbol.{Symbol, after, is_wide, size}
 use Rattle.strings.specs.Laid.{Laid}
 use Rattle.strings.specs.Read.{symbol_of, width_of}
-use Rattle.strings.specs.declared.Filled.{Filled}
 use Rattle.strings.specs.declared.Sign.{Sign}
 use Rattle.strings.specs.declared.Sign.TheVariants.{Begin, Call, Code, End, Name, Number, Par, Var}
 use Rattle.cells.proofs.Words.{cell-inside}
@@ -22,6 +22,7 @@ use Rattle.cells.specs.Words.{four, word_at}
 use Rattle.cells.specs.declared.Layout.{Layout}
 use Rattle.streaming.specs.Inside.{Entered, Goes, Left, NoRoom, PlaceKept, Reads, Writes, Wrote}
 use Rattle.streaming.specs.declared.Now.{Now}
+use Rattle.streaming.specs.declared.Fault.{Fault}
 use Rattle.streaming.specs.declared.Stepped.{Stepped}
 
 pub words_small : (top stride : ℕ) → top < 2 ^ 21 → stride ≤ max_params + 3 → (top - 1) * stride < 2 ^ 26
@@ -73,13 +74,13 @@ left-now l s table cell behind end link h c e u f v g w =
       goes = rw (← c, ← e, ← f, ← g) refl;
     }
 
-pub wrote-now : (g : Symbol) (s : Now) (out out' : List ℕ) (f : Filled) (b w : ℕ) → Laid (g ∷ []) s.q out out' f → f.fits ≡ true → b ≡ after s.b g → b ≤ 65536
+pub wrote-now : (g : Symbol) (s : Now) (out out' : List ℕ) (f : Option ℕ) (q b w : ℕ) → Laid (g ∷ []) s.q out out' f → f ≡ Some q → b ≡ after s.b g → b ≤ 65536
     → w ≡ width_of g
     → Wrote g s out out'
-    (record { q = f.len; p = s.p; e = s.e; rank = s.rank; top = s.top; inside = true; tp = s.tp + w; b = b; d = s.d })
-wrote-now g s out out' f b w p t e k u =
-    let y = p.yes t in
-    let i = p.within in
+    (record { q = q; p = s.p; e = s.e; rank = s.rank; top = s.top; inside = true; tp = s.tp + w; b = b; d = s.d })
+wrote-now g s out out' f q b w p t e k u =
+    let y = p.yes q t in
+    let i = p.within q t in
     record {
       long = p.long;
       within = omega (arith, y.0, i);
@@ -88,14 +89,14 @@ wrote-now g s out out' f b w p t e k u =
       goes = rw (y.0, e, u) refl;
     }
 
-pub no-room-now : (g : Symbol) (s : Now) (out out' : List ℕ) (f : Filled) → Laid (g ∷ []) s.q out out' f → f.fits ≡ false → is_wide g ≡ false → NoRoom g s out out'
+pub no-room-now : (g : Symbol) (s : Now) (out out' : List ℕ) (f : Option ℕ) → Laid (g ∷ []) s.q out out' f → f ≡ None → is_wide g ≡ false → NoRoom g s out out'
 no-room-now g s out out' f p t e = record { long = p.long; over = go (p.no t) }
   where
     go : (length out < s.q + size (g ∷ [])) ⊎ ((is_wide g || false) ≡ true) → length out < s.q + size (g ∷ [])
     go (inl k) = k
     go (inr k) = never (sym k ∙ ap (λ (b : Bool). b || false) e)
 
-module _ (l : Layout) (s : Now) (table table' out out' : List ℕ) (r : Stepped) where
+module _ (l : Layout) (s : Now) (table table' out out' : List ℕ) (r : Result Stepped Fault) where
   pub read-par : (g : Sign) (i : ℕ) → g ≡ Par i → Goes (Entered l i s table table') r → Reads (symbol_of g) l s table table' out out r
   read-par g i e w = rw e (w, refl)
 

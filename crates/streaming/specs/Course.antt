@@ -1,5 +1,5 @@
 -- Where a run stands: what is written and what is pending are together the string of a term that means the same.
-use Rattle.std.specs.Prelude.{Bool, cond, false, true, List, [], ◌++◌, ◌∷◌, ◌≡◌, ℕ, suc, ◌+◌, ◌*◌, ◌/◌, ◌%◌, ◌≤◌, ◌<◌, min, get_or, length}
+use Rattle.std.specs.Prelude.{Bool, false, true, List, [], ◌++◌, ◌∷◌, ◌≡◌, ℕ, suc, ◌+◌, ◌*◌, ◌/◌, ◌%◌, ◌≤◌, ◌<◌, min, get_or, length}
 use Rattle.symbols.specs.Spell.{max_params, spell}
 use Rattle.symbols.specs.Symbol.{Spelt, Symbol, call, fill, size}
 use Rattle.strings.specs.Read.{string_at}

@@ -1,14 +1,15 @@
 -- What the parts of a step in the string give.
-use Rattle.std.specs.Prelude.{Bool, cond, false, true, List, [], ◌∷◌, ◌⊎◌, ◌≡◌, ℕ, ◌+◌, ◌-◌, ◌*◌, ◌%◌, ◌≤◌, ◌<◌, max, eqb, ltb, get_or, length}
+use Rattle.std.specs.Prelude.{Err, Ok, Result, Option, Some, Bool, cond, false, true, List, [], ◌∷◌, ◌⊎◌, ◌≡◌, ℕ, ◌+◌, ◌-◌, ◌*◌, ◌%◌, ◌≤◌, ◌<◌, max, eqb, ltb, get_or, length}
 use Rattle.std.proofs.lemmas.List.Edits.{sets}
 use Rattle.symbols.specs.Symbol.{Symbol, bytes_of, is_wide, size}
 use Rattle.strings.specs.Read.{width_of}
 use Rattle.shifting.specs.Shift.{noted, opened_by, shift_one}
 use Rattle.cells.specs.Words.{four, word_at}
-use Rattle.streaming.specs.declared.Depth.{Depth}
 use Rattle.streaming.specs.declared.Now.{Now}
+use Rattle.streaming.specs.declared.Fault.{Fault}
 use Rattle.streaming.specs.declared.Stepped.{Stepped}
-use Rattle.streaming.specs.declared.Stepped.TheVariants.{Finished, Lost, On, Short}
+use Rattle.streaming.specs.declared.Stepped.TheVariants.{Finished, On}
+use Rattle.streaming.specs.declared.Fault.TheVariants.{Lost, Short}
 use Rattle.cells.specs.declared.Layout.{Layout}
 
 -- the index of a variable as it is written
@@ -16,9 +17,9 @@ abbrev pub shifted_index : List ℕ → ℕ → ℕ → ℕ → ℕ
 shifted_index env b d j = j + (b - get_or (noted env d) j 0)
 
 -- the brackets open after a symbol, if that can be told
-pub record Opens (g : Symbol) (b d : ℕ) (env env' : List ℕ) (r : Depth) : Type 0 where
+pub record Opens (g : Symbol) (b d : ℕ) (env env' : List ℕ) (r : Option ℕ) : Type 0 where
   pub long : length env' ≡ length env
-  pub yes : r.ok ≡ true → (noted env' r.count ≡ opened_by b (noted env d) g) × (r.count ≤ length env)
+  pub yes : (k : ℕ) → r ≡ Some k → (noted env' k ≡ opened_by b (noted env d) g) × (k ≤ length env)
 
 -- a symbol as it is written
 abbrev pub written : List ℕ → Now → Symbol → List Symbol
@@ -38,11 +39,11 @@ pub record Passes (g : Symbol) (called : Bool) (known : ℕ) (env : List ℕ) (s
   pub opened : noted env' t.d ≡ opened_by s.b (noted env s.d) g
   pub bounded : t.d ≤ length env'
 
-abbrev pub PassesHere : Symbol → Bool → ℕ → List ℕ → Now → ℕ → List ℕ → Stepped → Type 0
-PassesHere g called known env s len env' (On t) = Passes g called known env s len env' t
-PassesHere g called known env s len env' (Finished end) = ⊥
-PassesHere g called known env s len env' Short = ⊥
-PassesHere g called known env s len env' Lost = Unit {0}
+abbrev pub PassesHere : Symbol → Bool → ℕ → List ℕ → Now → ℕ → List ℕ → Result Stepped Fault → Type 0
+PassesHere g called known env s len env' (Ok (On t)) = Passes g called known env s len env' t
+PassesHere g called known env s len env' (Ok (Finished end)) = ⊥
+PassesHere g called known env s len env' (Err Short) = ⊥
+PassesHere g called known env s len env' (Err Lost) = Unit {0}
 
 pub record Writes (g : Symbol) (called : Bool) (known : ℕ) (env out : List ℕ) (s : Now) (env' out' : List ℕ) (t : Now) : Type 0 where
   pub long : length out' ≡ length out
@@ -50,12 +51,12 @@ pub record Writes (g : Symbol) (called : Bool) (known : ℕ) (env out : List ℕ
   pub put : out' ≡ sets out s.q (bytes_of (written env s g))
   pub passes : Passes g called known env s (s.q + size (written env s g)) env' t
 
-abbrev pub WritesHere : Symbol → Bool → ℕ → List ℕ → List ℕ → Now → List ℕ → List ℕ → Stepped → Type 0
-WritesHere g called known env out s env' out' (On t) = Writes g called known env out s env' out' t
-WritesHere g called known env out s env' out' (Finished len) = ⊥
-WritesHere g called known env out s env' out' Short =
+abbrev pub WritesHere : Symbol → Bool → ℕ → List ℕ → List ℕ → Now → List ℕ → List ℕ → Result Stepped Fault → Type 0
+WritesHere g called known env out s env' out' (Ok (On t)) = Writes g called known env out s env' out' t
+WritesHere g called known env out s env' out' (Ok (Finished len)) = ⊥
+WritesHere g called known env out s env' out' (Err Short) =
     (length out' ≡ length out) × ((length out < s.q + size (written env s g)) ⊎ (is_wide (shift_one (noted env s.d) s.b g) ≡ true))
-WritesHere g called known env out s env' out' Lost = Unit {0}
+WritesHere g called known env out s env' out' (Err Lost) = Unit {0}
 
 -- in the template of a call that has been entered
 abbrev pub entered : Now → Now

@@ -1,20 +1,22 @@
 -- What a step in the template does to the numbers of a run and to the memory, whatever the string is. Definitions only.
-use Rattle.std.specs.Prelude.{false, true, List, [], ◌∷◌, ◌≡◌, ℕ, ◌+◌, ◌-◌, ◌*◌, ◌/◌, ◌%◌, ◌^◌, ◌≤◌, ◌<◌, length}
+use Rattle.std.specs.Prelude.{Err, Ok, Result, false, true, List, [], ◌∷◌, ◌≡◌, ℕ, ◌+◌, ◌-◌, ◌*◌, ◌/◌, ◌%◌, ◌^◌, ◌≤◌, ◌<◌, length}
 use Rattle.std.proofs.lemmas.List.Edits.{sets}
 use Rattle.symbols.specs.Symbol.{Symbol, after, begin, bytes_of, call, code, end, name, number, par, size, var}
 use Rattle.strings.specs.Read.{width_of}
 use Rattle.cells.specs.Words.{four, word_at}
 use Rattle.cells.specs.declared.Layout.{Layout}
 use Rattle.streaming.specs.declared.Now.{Now}
+use Rattle.streaming.specs.declared.Fault.{Fault}
 use Rattle.streaming.specs.declared.Stepped.{Stepped}
-use Rattle.streaming.specs.declared.Stepped.TheVariants.{Finished, Lost, On, Short}
+use Rattle.streaming.specs.declared.Stepped.TheVariants.{Finished, On}
+use Rattle.streaming.specs.declared.Fault.TheVariants.{Lost, Short}
 
 -- a step that goes on, unless it cannot be told how
-abbrev pub Goes : (Now → Type 0) → Stepped → Type 0
-Goes P (On s) = P s
-Goes P (Finished len) = ⊥
-Goes P Short = ⊥
-Goes P Lost = Unit {0}
+abbrev pub Goes : (Now → Type 0) → Result Stepped Fault → Type 0
+Goes P (Ok (On s)) = P s
+Goes P (Ok (Finished len)) = ⊥
+Goes P (Err Short) = ⊥
+Goes P (Err Lost) = Unit {0}
 
 -- word i of the call entered last
 abbrev pub cell_at : Layout → Now → ℕ → ℕ
@@ -102,14 +104,14 @@ pub record NoRoom (g : Symbol) (s : Now) (out out' : List ℕ) : Type 0 where
   pub long : length out' ≡ length out
   pub over : length out < s.q + size (g ∷ [])
 
-abbrev pub Writes : Symbol → Now → List ℕ → List ℕ → Stepped → Type 0
-Writes g s out out' (On r) = Wrote g s out out' r
-Writes g s out out' (Finished len) = ⊥
-Writes g s out out' Short = NoRoom g s out out'
-Writes g s out out' Lost = Unit {0}
+abbrev pub Writes : Symbol → Now → List ℕ → List ℕ → Result Stepped Fault → Type 0
+Writes g s out out' (Ok (On r)) = Wrote g s out out' r
+Writes g s out out' (Ok (Finished len)) = ⊥
+Writes g s out out' (Err Short) = NoRoom g s out out'
+Writes g s out out' (Err Lost) = Unit {0}
 
 -- a symbol of the template: into an argument, or written
-abbrev pub Reads : Symbol → Layout → Now → List ℕ → List ℕ → List ℕ → List ℕ → Stepped → Type 0
+abbrev pub Reads : Symbol → Layout → Now → List ℕ → List ℕ → List ℕ → List ℕ → Result Stepped Fault → Type 0
 Reads (par i) l s table table' out out' r = Goes (Entered l i s table table') r × (out' ≡ out)
 Reads (var j) l s table table' out out' r = Writes (var j) s out out' r × (table' ≡ table)
 Reads (name x k) l s table table' out out' r = Writes (name x k) s out out' r × (table' ≡ table)

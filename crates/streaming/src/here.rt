@@ -8,16 +8,10 @@ ghost use Rattle.cells.specs.Table.{Sized};
 ghost use Rattle.streaming.specs.Here.{EntersCall, Opens, PassesHere, WritesHere, leaving, shifted_index};
 ghost use Rattle.streaming.specs.Step.{Sane, StepsHere};
 
-use crate::{Depth, Now, Stepped, close_one};
+use crate::{Fault, Now, Stepped};
 use cells::{Layout, next_rank, put_word, word};
 use rewriting::is_call;
 use strings::{Sign, put_one, symbol_at, width};
-
-fn minus(x: usize, y: usize) -> usize
-    ensures { result ≡ x - y }
-{
-    if y < x { x - y } else { 0 }
-}
 
 // The index of a variable of the string, moved by the brackets that templates have opened since its own was opened.
 fn shifted_index(j: u16, env: &[u16], b: usize, d: usize) -> usize
@@ -28,7 +22,7 @@ fn shifted_index(j: u16, env: &[u16], b: usize, d: usize) -> usize
     if i < d {
         let k = d - 1 - i;
         let before = env[k] as usize;
-        return i + minus(b, before);
+        return i + b.saturating_sub(before);
     }
     i + b
 }
@@ -66,76 +60,77 @@ fn shifted(g: Sign, env: &[u16], b: usize, d: usize) -> Sign
     }
 }
 
-// A bracket of the string notes how many of templates are open.
-fn open_here(env: &mut [u16], b: usize, d: usize) -> Depth
+// A bracket of the string notes how many of templates are open. How many of the string are open then, if that can be told.
+fn open_here(env: &mut [u16], b: usize, d: usize) -> Option<usize>
     ensures { Opens begin b d env.old env.new result }
 {
-    if d < env.len() {
-        if b < Now::BRACKETS {
-            env[d] = b as u16;
-            return Depth {
-                ok: true,
-                count: d + 1,
-            };
-        }
+    if d < env.len() && b < Now::BRACKETS {
+        env[d] = b as u16;
+        return Some(d + 1);
     }
-    Depth {
-        ok: false,
-        count: d,
-    }
+    None
 }
 
-fn string_depth(g: Sign, env: &mut [u16], b: usize, d: usize) -> Depth
+fn string_depth(g: Sign, env: &mut [u16], b: usize, d: usize) -> Option<usize>
     requires { d ≤ length env.old }
     ensures { Opens (symbol_of g) b d env.old env.new result }
 {
     match g {
-        Sign::Par(_) => Depth { ok: true, count: d },
-        Sign::Var(_) => Depth { ok: true, count: d },
-        Sign::Name(_, _) => Depth { ok: true, count: d },
-        Sign::Code(_) => Depth { ok: true, count: d },
-        Sign::Number(_) => Depth { ok: true, count: d },
-        Sign::Call(_) => Depth { ok: true, count: d },
+        Sign::Par(_) => Some(d),
+        Sign::Var(_) => Some(d),
+        Sign::Name(_, _) => Some(d),
+        Sign::Code(_) => Some(d),
+        Sign::Number(_) => Some(d),
+        Sign::Call(_) => Some(d),
         Sign::Begin => open_here(env, b, d),
-        Sign::End => close_one(d),
+        Sign::End => d.checked_sub(1),
     }
 }
 
 // On to the next symbol of the string.
-fn pass(g: Sign, call: bool, known: usize, env: &mut [u16], q: usize, s: Now) -> Stepped
+fn pass(
+    g: Sign,
+    call: bool,
+    known: usize,
+    env: &mut [u16],
+    q: usize,
+    s: Now,
+) -> Result<Stepped, Fault>
     requires { (s.d ≤ length env.old) × (s.p < 2 ^ 33) × (s.rank < 2 ^ 14) }
     ensures { PassesHere (symbol_of g) call known env.old s q env.new result }
 {
-    let o = string_depth(g, env, s.b, s.d);
-    if o.ok {
-        return Stepped::On(Now {
-            q,
-            p: s.p + width(g),
-            e: s.e,
-            rank: next_rank(s.rank, known, call),
-            top: s.top,
-            inside: false,
-            tp: s.tp,
-            b: s.b,
-            d: o.count,
-        });
-    }
-    Stepped::Lost
+    let Some(d) = string_depth(g, env, s.b, s.d) else {
+        return Err(Fault::Lost);
+    };
+    Ok(Stepped::On(Now {
+        q,
+        p: s.p + width(g),
+        rank: next_rank(s.rank, known, call),
+        inside: false,
+        d,
+        ..s
+    }))
 }
 
 // A symbol of the string written.
-fn write_here(g: Sign, call: bool, known: usize, env: &mut [u16], out: &mut [u8], s: Now) -> Stepped
+fn write_here(
+    g: Sign,
+    call: bool,
+    known: usize,
+    env: &mut [u16],
+    out: &mut [u8],
+    s: Now,
+) -> Result<Stepped, Fault>
     requires { Sane env.old out.old s × (is_far (symbol_of g) ≡ false) }
     ensures { WritesHere (symbol_of g) call known env.old out.old s env.new out.new result }
 {
     if shifts_wide(g, env, s.b, s.d) {
-        return Stepped::Short;
+        return Err(Fault::Short);
     }
-    let f = put_one(shifted(g, env, s.b, s.d), out, s.q);
-    if f.fits {
-        return pass(g, call, known, env, f.len, s);
-    }
-    Stepped::Short
+    let Some(q) = put_one(shifted(g, env, s.b, s.d), out, s.q) else {
+        return Err(Fault::Short);
+    };
+    pass(g, call, known, env, q, s)
 }
 
 // The word of call r before the two that a run keeps.
@@ -155,15 +150,10 @@ fn enter_call(table: &mut [u8], l: Layout, s: Now) -> Now
     put_word(table, last + 1, s.e);
     put_word(table, last + 2, s.top * Now::PLACES);
     Now {
-        q: s.q,
-        p: s.p,
-        e: s.e,
-        rank: s.rank,
         top: s.rank + 1,
         inside: true,
         tp: 0,
-        b: s.b,
-        d: s.d,
+        ..s
     }
 }
 
@@ -177,15 +167,9 @@ fn leave_part(table: &[u8], l: Layout, s: Now) -> Stepped
     }
     let link = word(table, last_place(l, s.top - 1) + 2);
     Stepped::On(Now {
-        q: s.q,
-        p: s.p,
-        e: s.e,
-        rank: s.rank,
-        top: s.top,
         inside: true,
         tp: link % Now::PLACES,
-        b: s.b,
-        d: s.d,
+        ..s
     })
 }
 
@@ -199,19 +183,17 @@ pub fn step_here(
     env: &mut [u16],
     out: &mut [u8],
     s: Now,
-) -> Stepped
+) -> Result<Stepped, Fault>
     requires { Sane env.old out.old s × Sized l (length table.old) × (known ≤ l.room) }
     ensures { StepsHere a.now n l known table.old env.old out.old s table.new env.new out.new result }
 {
     if s.e <= s.p {
-        return leave_part(table, l, s);
+        return Ok(leave_part(table, l, s));
     }
     let g = symbol_at(a, s.p);
     let call = is_call(g, n);
-    if call {
-        if s.rank < known {
-            return Stepped::On(enter_call(table, l, s));
-        }
+    if call && s.rank < known {
+        return Ok(Stepped::On(enter_call(table, l, s)));
     }
     write_here(g, call, known, env, out, s)
 }

@@ -7,7 +7,7 @@ ghost use Rattle.cells.specs.Table.{Sized};
 ghost use Rattle.streaming.specs.Inside.{Entered, Goes, Left, PlaceKept, Reads, Writes};
 ghost use Rattle.streaming.specs.Step.{StepsInside};
 
-use crate::{Now, Stepped};
+use crate::{Fault, Now, Stepped};
 use cells::{Layout, Place, put_word, word};
 use strings::{Sign, opened, put_one, symbol_at, width};
 
@@ -38,92 +38,77 @@ fn enter(table: &mut [u8], l: Layout, j: usize, s: Now) -> Now
     let from = word(table, cell + j);
     let to = word(table, cell + (j + 1));
     Now {
-        q: s.q,
         p: from / Place::RANKS,
         e: to / Place::RANKS,
         rank: from % Place::RANKS,
-        top: s.top,
         inside: false,
-        tp: s.tp,
-        b: s.b,
-        d: s.d,
+        ..s
     }
 }
 
 // An argument entered, if the call has words in the table and its shape speaks of the argument.
-fn enter_argument(table: &mut [u8], l: Layout, i: u8, s: Now) -> Stepped
+fn enter_argument(table: &mut [u8], l: Layout, i: u8, s: Now) -> Result<Stepped, Fault>
     requires { Sized l (length table.old) }
     ensures { Goes (Entered l i s table.old table.new) result }
 {
     let j = i as usize;
-    if s.top == 0 {
-        return Stepped::Lost;
+    if s.top == 0 || l.room < s.top || l.places <= j || Now::LAST <= s.tp {
+        return Err(Fault::Lost);
     }
-    if l.room < s.top {
-        return Stepped::Lost;
-    }
-    if l.places <= j {
-        return Stepped::Lost;
-    }
-    if Now::LAST <= s.tp {
-        return Stepped::Lost;
-    }
-    Stepped::On(enter(table, l, j, s))
+    Ok(Stepped::On(enter(table, l, j, s)))
 }
 
 // A symbol of the template written.
-fn write_template(g: Sign, out: &mut [u8], s: Now) -> Stepped
+fn write_template(g: Sign, out: &mut [u8], s: Now) -> Result<Stepped, Fault>
     requires { (s.q ≤ length out.old) × (s.b ≤ 65536) × (s.tp < 2 ^ 12) × (is_far (symbol_of g) ≡ false) × (is_wide (symbol_of g) ≡ false) }
     ensures { Writes (symbol_of g) s out.old out.new result }
 {
-    let f = put_one(g, out, s.q);
-    if f.fits {
-        let b = opened(s.b, g);
-        if b <= Now::BRACKETS {
-            return Stepped::On(Now {
-                q: f.len,
-                p: s.p,
-                e: s.e,
-                rank: s.rank,
-                top: s.top,
-                inside: true,
-                tp: s.tp + width(g),
-                b,
-                d: s.d,
-            });
-        }
-        return Stepped::Lost;
+    let Some(q) = put_one(g, out, s.q) else {
+        return Err(Fault::Short);
+    };
+    let b = opened(s.b, g);
+    if Now::BRACKETS < b {
+        return Err(Fault::Lost);
     }
-    Stepped::Short
+    Ok(Stepped::On(Now {
+        q,
+        inside: true,
+        tp: s.tp + width(g),
+        b,
+        ..s
+    }))
 }
 
 // The end of a template: the string goes on after the call.
-fn leave_call(table: &[u8], l: Layout, s: Now) -> Stepped
+fn leave_call(table: &[u8], l: Layout, s: Now) -> Result<Stepped, Fault>
     requires { (s.top < 2 ^ 21) × Sized l (length table.now) }
     ensures { Goes (Left l s table.now) result }
 {
     if s.top == 0 {
-        return Stepped::Lost;
+        return Err(Fault::Lost);
     }
     let cell = words_at(s.top, l.stride) + l.places;
     let after = word(table, cell);
     let end = word(table, cell + 1);
     let link = word(table, cell + 2);
-    Stepped::On(Now {
-        q: s.q,
+    Ok(Stepped::On(Now {
         p: after / Place::RANKS,
         e: end,
         rank: after % Place::RANKS,
         top: link / Now::PLACES,
         inside: false,
-        tp: s.tp,
-        b: s.b,
-        d: s.d,
-    })
+        ..s
+    }))
 }
 
 // The symbol that the template goes on with.
-fn read_template(g: Sign, table: &mut [u8], l: Layout, out: &mut [u8], s: Now) -> Stepped
+fn read_template(
+    g: Sign,
+    table: &mut [u8],
+    l: Layout,
+    out: &mut [u8],
+    s: Now,
+) -> Result<Stepped, Fault>
     requires { (s.q ≤ length out.old) × (s.b ≤ 65536) × (s.top < 2 ^ 21) × (s.tp < 2 ^ 12) × Sized l (length table.old) × (is_far (symbol_of g) ≡ false) × (is_wide (symbol_of g) ≡ false) }
     ensures { Reads (symbol_of g) l s table.old table.new out.old out.new result }
 {
@@ -147,7 +132,7 @@ pub fn step_inside(
     l: Layout,
     out: &mut [u8],
     s: Now,
-) -> Stepped
+) -> Result<Stepped, Fault>
     requires { (s.q ≤ length out.old) × (s.b ≤ 65536) × (s.top < 2 ^ 21) × (s.tp < 2 ^ 12) × (tlen ≤ 1024) × Sized l (length table.old) }
     ensures { StepsInside template.now tlen l table.old out.old s table.new out.new result }
 {

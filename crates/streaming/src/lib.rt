@@ -4,11 +4,10 @@
 pub mod here;
 pub mod inside;
 
-ghost use Rattle.std.specs.Prelude.{◌≡◌, ◌-◌, ltb};
-
 // Where a run stands: so many bytes written; in the string at p, in a part that ends at e, so many calls standing before p; the call
 // entered last, its number plus one; whether its template is being read, at tp; how many brackets are open that templates opened, and how
 // many that the string did.
+// `inside` beside `tp`, not an Option: `tp` has its bound in every state, so that each contract states it without a case.
 #[derive(Clone, Copy)]
 pub struct Now {
     pub q: usize,
@@ -33,34 +32,16 @@ impl Now {
     pub const BRACKETS: usize = 65536;
 }
 
-// What a step comes to: it goes on; all is written, so many bytes; there is no room for a symbol, or no two bytes for an index; it cannot be told.
+// What a step comes to: it goes on; or all is written, so many bytes.
 #[derive(Clone, Copy)]
 pub enum Stepped {
     On(Now),
     Finished(usize),
+}
+
+// What ends a run: there is no room for a symbol, or no two bytes for an index; or it cannot be told how it goes on.
+#[derive(Clone, Copy, PartialEq, Eq)]
+pub enum Fault {
     Short,
     Lost,
-}
-
-// How many brackets are open then, if that can be told.
-#[derive(Clone, Copy)]
-pub struct Depth {
-    pub ok: bool,
-    pub count: usize,
-}
-
-// One bracket less, if there is one.
-pub fn close_one(d: usize) -> Depth
-    ensures { (result.ok ≡ ltb 0 d) × (result.count ≡ d - 1) }
-{
-    if 0 < d {
-        return Depth {
-            ok: true,
-            count: d - 1,
-        };
-    }
-    Depth {
-        ok: false,
-        count: d,
-    }
 }

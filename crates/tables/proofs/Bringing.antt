@@ -14,8 +14,8 @@ use Rattle.theory.specs.Lists.{find, numbers_from, or_else}
 use Rattle.context.specs.Lookup.{as_code, code_under, stands_under}
 use Rattle.context.specs.Entries.{word_count}
 use Rattle.store.specs.Store.{via_at}
-use Rattle.context.specs.declared.Code.{Code}
-use Rattle.context.specs.declared.Code.TheVariants.{At, Absent}
+use Rattle.store.specs.declared.Facts.{Facts}
+use Rattle.std.specs.Prelude.{Option as Answer, Some, None}
 use Rattle.context.proofs.Parts.{past, up-end, up_turn}
 use Rattle.tables.specs.Tables.{nexts_from, table_bytes, tables_in}
 use Rattle.tables.proofs.Parts.{next-in, nexts-length}
@@ -287,16 +287,16 @@ module _ (names : List ℕ) (n : ℕ) (t : List ℕ) (inv : RowsFrom names n t) 
 
 -- what a row says
 module _ (names : List ℕ) (f s g : ℕ) where
-  pub told_below : g < s → Absent ≡ as_code (told_by names f s g)
+  pub told_below : g < s → None ≡ as_code (told_by names f s g)
   unfolding as_code
   told_below h = rw (lt-leb s g h) refl
 
   module _ (x : ℕ) (low : s ≤ g) (ex : x ≡ get_or names g 0) where
-    pub told_here : f ≡ x → At g ≡ as_code (told_by names f s g)
+    pub told_here : f ≡ x → Some g ≡ as_code (told_by names f s g)
     unfolding as_code
     told_here h = rw (le-leb s g low, ← ex, eq-eqb f x h) refl
 
-    pub told-other : (f ≡ x → ⊥) → Absent ≡ as_code (told_by names f s g)
+    pub told-other : (f ≡ x → ⊥) → None ≡ as_code (told_by names f s g)
     unfolding as_code
     told-other h = rw (le-leb s g low, ← ex, ne_eqb f x h) refl
 
@@ -306,11 +306,11 @@ module _ (names t : List ℕ) (f s r x : ℕ) (right : Nexted names (tables_in t
   row_in : r ≡ get_or (tables_in t).nexts f 0
   row_in = er ∙ next-in t f (omega arith)
 
-  pub next-other : (f ≡ x → ⊥) → Absent ≡ as_code (first_from names f s)
+  pub next-other : (f ≡ x → ⊥) → None ≡ as_code (first_from names f s)
   unfolding next_in as_code
   next-other h = rw (← (right.at f s hf hs (nexts-length t ht)), ← row_in, ← ex, ne_eqb f x h) refl
 
-  pub next-told : (g : ℕ) (y : Code) → r < max_definitions → f ≡ x → g ≡ get_or t (nexts_from + (rows_from + (max_definitions * r + s))) 0 → y ≡ as_code (told_by names f s g)
+  pub next-told : (g : ℕ) (y : Answer ℕ) → r < max_definitions → f ≡ x → g ≡ get_or t (nexts_from + (rows_from + (max_definitions * r + s))) 0 → y ≡ as_code (told_by names f s g)
       → y ≡ as_code (first_from names f s)
   unfolding next_in
   next-told g y hr e eg ey =
@@ -322,12 +322,12 @@ and-false : (a b : Bool) → b ≡ false → a && b ≡ false
 and-false true b e = e
 and-false false b e = refl
 
-module _ (names facts : List ℕ) (i f first count : ℕ) (room : first + count ≤ max_definitions) where
+module _ (names : List ℕ) (facts : List Facts) (i f first count : ℕ) (room : first + count ≤ max_definitions) where
   none-under : ((k : ℕ) → first ≤ k → k < first + count → eqb f (get_or names k 0) ≡ false) → code_under names facts i f (numbers_from first count) ≡ none
   unfolding code_under
   none-under h = none_passes (stands_under names facts i f) count first (λ k l m. and-false (eqb i (via_at facts k)) (eqb f (get_or names k 0)) (h k l m))
 
-  pub under_none : first_from names f first ≡ none → Absent ≡ as_code (code_under names facts i f (numbers_from first count))
+  pub under_none : first_from names f first ≡ none → None ≡ as_code (code_under names facts i f (numbers_from first count))
   unfolding first_from as_code
   under_none e = rw (none-under (λ k l m. none_found (named names f) (max_definitions - first) first e k l (omega arith))) refl
 
@@ -336,27 +336,27 @@ module _ (names facts : List ℕ) (i f first count : ℕ) (room : first + count 
     unfolding first_from
     is-first = found_first (named names f) (max_definitions - first) first g e
 
-    pub under-past : first + count ≤ g → Absent ≡ as_code (code_under names facts i f (numbers_from first count))
+    pub under-past : first + count ≤ g → None ≡ as_code (code_under names facts i f (numbers_from first count))
     unfolding as_code
     under-past h = rw (none-under (λ k l m. is-first.before k l (omega arith))) refl
 
-    pub under_first : (b : Bool) → g < first + count → b ≡ stands_under names facts i f g → b ≡ true → At g ≡ as_code (code_under names facts i f (numbers_from first count))
+    pub under_first : (b : Bool) → g < first + count → b ≡ stands_under names facts i f g → b ≡ true → Some g ≡ as_code (code_under names facts i f (numbers_from first count))
     unfolding as_code code_under
     under_first b h p q =
         rw (is_found (stands_under names facts i f) count first g is-first.low h (sym p ∙ q)
         (λ k l m. and-false (eqb i (via_at facts k)) (eqb f (get_or names k 0)) (is-first.before k l m))) refl
 
 -- what a code that was found says
-pub as_some : (o : Option ℕ) (x : Code) (g : ℕ) → x ≡ as_code o → x ≡ At g → o ≡ some g
+pub as_some : (o : Option ℕ) (x : Answer ℕ) (g : ℕ) → x ≡ as_code o → x ≡ Some g → o ≡ some g
 unfolding as_code
 as_some none x g e h = absurd (let z : ◌≡◌ {A = ℕ} 0 1 = cc in omega arith)
 as_some (some k) x g e h = let z : k ≡ g = cc in ap some z
 
-pub as_none : (o : Option ℕ) (x : Code) → x ≡ as_code o → x ≡ Absent → o ≡ none
+pub as_none : (o : Option ℕ) (x : Answer ℕ) → x ≡ as_code o → x ≡ None → o ≡ none
 unfolding as_code
 as_none none x e h = refl
 as_none (some k) x e h = absurd (let z : ◌≡◌ {A = ℕ} 0 1 = cc in omega arith)
 
-pub no-count : (names facts : List ℕ) (i f first count : ℕ) → count ≡ 0 → Absent ≡ as_code (code_under names facts i f (numbers_from first count))
+pub no-count : (names : List ℕ) (facts : List Facts) (i f first count : ℕ) → count ≡ 0 → None ≡ as_code (code_under names facts i f (numbers_from first count))
 unfolding as_code code_under
 no-count names facts i f first count e = rw e refl

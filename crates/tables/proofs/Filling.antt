@@ -3,17 +3,17 @@ use borrow.Author.Tests.{ltb-false, ltb-true}
 use mathlib.Core.Bool.{Bool, false, true}
 use mathlib.Core.List.{List, ◌++◌, append-nil}
 use mathlib.Core.Path.{◌∙◌, ◌≡◌, ap, refl}
-use Prim.Native.Nat.{ℕ, ◌+◌, ◌-◌, ◌^◌, ◌<◌, ◌≤◌}
+use Prim.Native.Nat.{ℕ, ◌-◌, ◌^◌, ◌<◌, ◌≤◌}
 use native.Mathlib.Omega.{arith}
 use lib.Dec.{ltb}
 use lib.ListN.{get_or-eq_default, drop, drop_of_length-le, get_or, length, length-append, length-drop, length-take, take}
 use lib.Seq.{drop_at, get_or-take, length-take-le, take_all, take_at}
 use borrow.Rule.Slice.PartMut.{put_mid}
-use Rattle.store.specs.Store.{Store, region}
+use Rattle.store.specs.declared.Store.{Store}
 use Rattle.tables.specs.Brought.{Nexted, next_bytes}
 use Rattle.tables.specs.Names.{Tabled, Zeroed, name_bytes}
 use Rattle.tables.specs.Serves.{Serves}
-use Rattle.tables.specs.Tables.{nexts_from, table_bytes, tables_in}
+use Rattle.tables.specs.Tables.{nexts_from, region, table_bytes, tables_in}
 
 module _ (t : List ℕ) where
   pub first-length : length t ≡ table_bytes → length (take nexts_from t) ≡ nexts_from

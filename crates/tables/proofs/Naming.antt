@@ -15,25 +15,24 @@ use Rattle.tokens.specs.declared.Token.TheVariants.{InstanceOperator, Name}
 use Rattle.context.specs.Lookup.{as_code, brought_at, brought_in, code_named, operator_at, operator_in}
 use Rattle.context.specs.Parts.{part}
 use Rattle.context.specs.Entries.{word_count}
+use Rattle.std.specs.Prelude.{Option as Answer, Some, None}
 use Rattle.context.specs.declared.Brought.{Brought}
-use Rattle.context.specs.declared.Code.{Code}
-use Rattle.context.specs.declared.Code.TheVariants.{At, Absent}
 use Rattle.context.specs.declared.Operator.{Operator}
 use Rattle.context.proofs.Parts.{part_end, part-turn}
 use Rattle.resolve.specs.Look.{brought_ref, look_in, operator_ref}
 use Rattle.resolve.specs.declared.Look.{Look}
-use Rattle.resolve.specs.declared.Look.TheVariants.{NoRef}
 use Rattle.tables.specs.Tables.{table_bytes, tables_in}
 use Rattle.tables.proofs.Parts.{place-number, places-length}
 use Rattle.tables.specs.Names.{Tabled, TabledFrom, Zeroed, code_at, name_bytes, placed}
+use Rattle.store.specs.declared.Facts.{Facts}
 
 -- an entry of the table
 module _ (contexts : List ℕ) (from w : ℕ) where
-  pub entry-none : w ≡ 0 → Absent ≡ as_code (code_at contexts from w)
+  pub entry-none : w ≡ 0 → None ≡ as_code (code_at contexts from w)
   unfolding as_code code_at
   entry-none h = rw h refl
 
-  pub entry-some : (o : ℕ) → (w ≡ 0 → ⊥) → o ≡ get_or contexts (from + (w - 1)) 0 → At o ≡ as_code (code_at contexts from w)
+  pub entry-some : (o : ℕ) → (w ≡ 0 → ⊥) → o ≡ get_or contexts (from + (w - 1)) 0 → Some o ≡ as_code (code_at contexts from w)
   unfolding as_code code_at
   entry-some o h e = rw (ne_eqb w 0 h, ← e) refl
 
@@ -123,33 +122,33 @@ module _ (names contexts : List ℕ) (from end i : ℕ) (table : List ℕ) (inv 
   placing-end h = let e : i ≡ from = omega (arith, inv.low) in subst (λ (k : ℕ). TabledFrom names contexts from end k table) e inv.tabled
 
 -- a name found by the table
-pub by-table : (names contexts : List ℕ) (from end : ℕ) (t : List ℕ) (n w : ℕ) (r : Code) → Tabled names contexts from end (tables_in t).places → table_bytes ≤ length t
+pub by-table : (names contexts : List ℕ) (from end : ℕ) (t : List ℕ) (n w : ℕ) (r : Answer ℕ) → Tabled names contexts from end (tables_in t).places → table_bytes ≤ length t
     → n < word_count → w ≡ number_at t (2 * n) → r ≡ as_code (code_at contexts from w) → r ≡ as_code (code_named names n (part contexts from (end - from)))
 by-table names contexts from end t n w r d h l ew e =
     let a : name_bytes ≤ length (tables_in t).places = places-length t h in
     e ∙ ap (λ (y : ℕ). as_code (code_at contexts from y)) (ew ∙ place-number t n l) ∙ ap as_code (d.at n (omega arith))
 
 -- what a code that was found means
-module _ (facts : List ℕ) (x : Code) where
-  pub name-code : (o : ℕ) (y : Operator) (r : Look) → x ≡ At o → y ≡ operator_at facts o → r ≡ operator_ref facts y → r ≡ operator_ref facts (operator_in facts x)
+module _ (facts : List Facts) (x : Answer ℕ) where
+  pub name-code : (o : ℕ) (y : Answer Operator) (r : Answer Look) → x ≡ Some o → y ≡ operator_at facts o → r ≡ operator_ref facts y → r ≡ operator_ref facts (operator_in facts x)
   unfolding operator_in
   name-code o y r e ey er = er ∙ rw (e, ey) refl
 
-  pub no_name : x ≡ Absent → NoRef ≡ operator_ref facts (operator_in facts x)
+  pub no_name : x ≡ None → None ≡ operator_ref facts (operator_in facts x)
   unfolding operator_in operator_ref
   no_name e = rw e refl
 
-module _ (names facts : List ℕ) (x : Code) where
-  pub instance-code : (i f o : ℕ) (y : Brought) (r : Look) → x ≡ At o → y ≡ brought_at facts o → r ≡ brought_ref names facts i f y
+module _ (names : List ℕ) (facts : List Facts) (x : Answer ℕ) where
+  pub instance-code : (i f o : ℕ) (y : Answer Brought) (r : Answer Look) → x ≡ Some o → y ≡ brought_at facts o → r ≡ brought_ref names facts i f y
       → r ≡ brought_ref names facts i f (brought_in facts x)
   unfolding brought_in
   instance-code i f o y r e ey er = er ∙ rw (e, ey) refl
 
-  pub no-instance : (i f : ℕ) → x ≡ Absent → NoRef ≡ brought_ref names facts i f (brought_in facts x)
+  pub no-instance : (i f : ℕ) → x ≡ None → None ≡ brought_ref names facts i f (brought_in facts x)
   unfolding brought_in brought_ref
   no-instance i f e = rw e refl
 
-module _ (names facts cs : List ℕ) (t : Token) (x : Code) (r : Look) where
+module _ (names : List ℕ) (facts : List Facts) (cs : List ℕ) (t : Token) (x : Answer ℕ) (r : Answer Look) where
   pub look-name : (n k : ℕ) → t ≡ Name n k → x ≡ as_code (code_named names n cs) → r ≡ operator_ref facts (operator_in facts x) → r ≡ look_in names facts cs t
   unfolding look_in
   look-name n k et ex er = er ∙ rw (ex, et) refl

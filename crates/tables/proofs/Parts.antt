@@ -1,17 +1,20 @@
 -- Each table read where it stands.
 use mathlib.Core.Bool.{}
 use mathlib.Core.List.{List}
-use mathlib.Core.Path.{◌∙◌, ◌≡◌, ap, ap₂}
-use Prim.Native.Nat.{ℕ, ◌+◌, ◌-◌, ◌*◌, ◌<◌, ◌≤◌}
+use mathlib.Core.Path.{◌∙◌, ◌≡◌, ap, ap₂, sym}
+use Prim.Native.Nat.{ℕ, ◌+◌, ◌*◌, ◌<◌, ◌≤◌}
 use native.Mathlib.Omega.{arith}
-use lib.ListN.{drop, get_or, length, length-drop, length-take, take}
-use Rattle.store.specs.Store.{region}
-use Rattle.store.proofs.Regions.{read-in}
+use lib.ListN.{drop, get_or, length, length-drop, length-take}
+use lib.Seq.{get_or-drop, get_or-take}
 use Rattle.tokens.specs.Token.{number_at}
 use Rattle.context.specs.Entries.{word_count}
 use Rattle.tables.specs.Brought.{next_bytes}
 use Rattle.tables.specs.Names.{name_bytes}
-use Rattle.tables.specs.Tables.{nexts_from, table_bytes, tables_in}
+use Rattle.tables.specs.Tables.{nexts_from, region, table_bytes, tables_in}
+
+read-in : (s : List ℕ) (a n i : ℕ) → i < n → get_or s (a + i) 0 ≡ get_or (region s a n) i 0
+unfolding region
+read-in s a n i h = sym (get_or-take n (drop a s) i 0 h ∙ get_or-drop a s i 0)
 
 module _ (t : List ℕ) where
   place_in : (i : ℕ) → i < name_bytes → get_or t i 0 ≡ get_or (tables_in t).places i 0

@@ -1,6 +1,6 @@
 -- The tables that a walk is lent, for the context whose codes stand from one place to another. Definitions only.
 use Rattle.std.specs.Prelude.{List, ℕ, ◌^◌, ◌<◌}
-use Rattle.store.specs.Store.{Store}
+use Rattle.store.specs.declared.Store.{Store}
 use Rattle.tables.specs.Brought.{Nexted}
 use Rattle.tables.specs.Names.{Tabled}
 use Rattle.tables.specs.Tables.{tables_in}

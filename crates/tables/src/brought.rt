@@ -7,16 +7,14 @@ ghost use Rattle.theory.specs.Lists.{numbers_from};
 ghost use Rattle.context.specs.Lookup.{as_code, code_under};
 ghost use Rattle.tables.specs.Tables.{table_bytes, tables_in};
 ghost use Rattle.tables.specs.Brought.{Nexted, Represented, Rowed, first_from, next_bytes, told_by};
-ghost use Rattle.store.specs.Store.{held};
 
 use crate::Tables;
 use crate::names::Names;
-use context::Code;
+use context::Brought;
 use context::lists::stands_under;
 use context::lookup::definition_of_instance;
 use limits::Limits;
 use store::Store;
-use store::reading::name_at;
 use tokens::byte_at;
 
 #[derive(Drop)]
@@ -30,23 +28,21 @@ impl Nexts {
 }
 
 // Under the name of each definition the number of one that has that name.
-fn represent(store: &[u16; Store::LENGTH], nexts: &mut [u8])
+fn represent(store: &Store, nexts: &mut [u8])
     requires { length nexts.old ≡ next_bytes }
-    ensures { Represented (held store.now).names max_definitions nexts.new }
+    ensures { Represented store.now.names max_definitions nexts.new }
 {
-    let mut g: usize = 0;
-    while g < Limits::DEFINITIONS {
-        nexts[name_at(store, g) as usize] = g as u8;
-        g += 1;
+    for g in 0..Limits::DEFINITIONS {
+        nexts[store.name_at(g) as usize] = g as u8;
     }
 }
 
 // Definition s if it has the name, else the one after it that has.
-fn nearest(store: &[u16; Store::LENGTH], name: u16, s: usize, after: u8) -> u8
+fn nearest(store: &Store, name: u16, s: usize, after: u8) -> u8
     requires { s < max_definitions }
-    ensures { result ≡ cond (eqb name (get_or (held store.now).names s 0)) s after }
+    ensures { result ≡ cond (eqb name (get_or store.now.names s 0)) s after }
 {
-    if name == name_at(store, s) {
+    if name == store.name_at(s) {
         s as u8
     } else {
         after
@@ -54,63 +50,59 @@ fn nearest(store: &[u16; Store::LENGTH], name: u16, s: usize, after: u8) -> u8
 }
 
 // The row of definition r, from its end to its start.
-fn fill_row(store: &[u16; Store::LENGTH], nexts: &mut [u8], r: usize)
+fn fill_row(store: &Store, nexts: &mut [u8], r: usize)
     requires { (length nexts.old ≡ next_bytes) × (r < max_definitions) }
-    ensures { Rowed (held store.now).names nexts.old r 0 nexts.new }
+    ensures { Rowed store.now.names nexts.old r 0 nexts.new }
 {
-    let name = name_at(store, r);
+    let name = store.name_at(r);
     let row = Nexts::ROWS + Limits::DEFINITIONS * r;
     let mut found: u8 = 0;
-    let mut s = Limits::DEFINITIONS;
-    while 0 < s {
-        s -= 1;
+    for s in (0..Limits::DEFINITIONS).rev() {
         found = nearest(store, name, s, found);
         nexts[row + s] = found;
     }
 }
 
-fn fill_rows(store: &[u16; Store::LENGTH], nexts: &mut [u8])
-    requires { Represented (held store.now).names max_definitions nexts.old }
-    ensures { Nexted (held store.now).names nexts.new }
+fn fill_rows(store: &Store, nexts: &mut [u8])
+    requires { Represented store.now.names max_definitions nexts.old }
+    ensures { Nexted store.now.names nexts.new }
 {
-    let mut r: usize = 0;
-    while r < Limits::DEFINITIONS {
+    for r in 0..Limits::DEFINITIONS {
         fill_row(store, nexts, r);
-        r += 1;
     }
 }
 
-pub fn fill(store: &[u16; Store::LENGTH], nexts: &mut [u8])
+pub fn fill(store: &Store, nexts: &mut [u8])
     requires { length nexts.old ≡ next_bytes }
-    ensures { Nexted (held store.now).names nexts.new }
+    ensures { Nexted store.now.names nexts.new }
 {
     represent(store, nexts);
     fill_rows(store, nexts);
 }
 
 // Definition g, if it has the name and its number is s or above.
-fn told(store: &[u16; Store::LENGTH], name: u16, s: usize, g: u8) -> Code
-    ensures { result ≡ as_code (told_by (held store.now).names name s g) }
+fn told(store: &Store, name: u16, s: usize, g: u8) -> Option<u16>
+    ensures { result ≡ as_code (told_by store.now.names name s g) }
 {
     let o = g as usize;
     if o < s {
-        return Code::Absent;
+        return None;
     }
-    if name == name_at(store, o) {
-        Code::At(g as u16)
+    if name == store.name_at(o) {
+        Some(g as u16)
     } else {
-        Code::Absent
+        None
     }
 }
 
 // The first definition of a name from number s on, by the table.
-fn next_named(store: &[u16; Store::LENGTH], tables: &[u8], name: u16, s: usize) -> Code
-    requires { (s < max_definitions) × (table_bytes ≤ length tables.now) × Nexted (held store.now).names (tables_in tables.now).nexts }
-    ensures { result ≡ as_code (first_from (held store.now).names name s) }
+fn next_named(store: &Store, tables: &[u8], name: u16, s: usize) -> Option<u16>
+    requires { (s < max_definitions) × (table_bytes ≤ length tables.now) × Nexted store.now.names (tables_in tables.now).nexts }
+    ensures { result ≡ as_code (first_from store.now.names name s) }
 {
     let r = byte_at(tables, Tables::NEXTS + name as usize) as usize;
-    if name != name_at(store, r) {
-        return Code::Absent;
+    if name != store.name_at(r) {
+        return None;
     }
     let g = byte_at(
         tables,
@@ -120,46 +112,36 @@ fn next_named(store: &[u16; Store::LENGTH], tables: &[u8], name: u16, s: usize) 
 }
 
 // I!F, where the first definition of the name from first on is g. What I brought stands under I, so that no search is made.
-fn brought_from(
-    store: &[u16; Store::LENGTH],
-    first: u16,
-    count: u16,
-    instance: u16,
-    name: u16,
-    g: u16,
-) -> Code
-    requires { (first + count ≤ max_definitions) × (first_from (held store.now).names name first ≡ some g) }
-    ensures { result ≡ as_code (code_under (held store.now).names (held store.now).facts «instance» name (numbers_from first count)) }
+fn brought_from(store: &Store, b: Brought, instance: u16, name: u16, g: u16) -> Option<u16>
+    requires { (b.first + b.count ≤ max_definitions) × (first_from store.now.names name b.first ≡ some g) }
+    ensures { result ≡ as_code (code_under store.now.names store.now.facts «instance» name (numbers_from b.first b.count)) }
 {
-    if first + count <= g {
-        return Code::Absent;
+    if b.first + b.count <= g {
+        return None;
     }
     if stands_under(store, g, instance, name) {
-        return Code::At(g);
+        return Some(g);
     }
-    definition_of_instance(store, first, count, instance, name)
+    definition_of_instance(store, b, instance, name)
 }
 
-// I!F: the definition of a name, under the instance, among count definitions from first on, which that instance brought.
+// I!F: the definition of a name, under the instance, among those that the instance brought.
 pub fn find_brought(
-    store: &[u16; Store::LENGTH],
+    store: &Store,
     tables: &[u8],
-    first: u16,
-    count: u16,
+    b: Brought,
     instance: u16,
     name: u16,
-) -> Code
-    requires { (first + count ≤ max_definitions) × Nexted (held store.now).names (tables_in tables.now).nexts }
-    ensures { result ≡ as_code (code_under (held store.now).names (held store.now).facts «instance» name (numbers_from first count)) }
+) -> Option<u16>
+    requires { (b.first + b.count ≤ max_definitions) × Nexted store.now.names (tables_in tables.now).nexts }
+    ensures { result ≡ as_code (code_under store.now.names store.now.facts «instance» name (numbers_from b.first b.count)) }
 {
     if tables.len() < Tables::BYTES {
-        return definition_of_instance(store, first, count, instance, name);
+        return definition_of_instance(store, b, instance, name);
     }
-    if count == 0 {
-        return Code::Absent;
+    if b.count == 0 {
+        return None;
     }
-    match next_named(store, tables, name, first as usize) {
-        Code::At(g) => brought_from(store, first, count, instance, name, g),
-        Code::Absent => Code::Absent,
-    }
+    let g = next_named(store, tables, name, b.first as usize)?;
+    brought_from(store, b, instance, name, g)
 }

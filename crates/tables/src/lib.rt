@@ -9,7 +9,6 @@ pub mod token;
 
 ghost use Rattle.std.specs.Prelude.{◌≡◌, ◌-◌, ◌^◌, ◌≤◌, ◌<◌, length};
 ghost use Rattle.context.specs.Entries.{word_count};
-ghost use Rattle.store.specs.Store.{held};
 ghost use Rattle.tables.specs.Names.{Zeroed};
 ghost use Rattle.tables.specs.Serves.{Serves};
 ghost use Rattle.tables.specs.Tables.{table_bytes};
@@ -37,9 +36,9 @@ impl Tables {
 }
 
 // Fills both, for the context whose codes stand from one place to another.
-pub fn fill(store: &[u16; Store::LENGTH], tables: &mut [u8], from: usize, end: usize)
+pub fn fill(store: &Store, tables: &mut [u8], from: usize, end: usize)
     requires { (length tables.old ≡ table_bytes) × Zeroed tables.old × (from < 2 ^ 32) × (from ≤ end) × (end - from < word_count) }
-    ensures { Serves (held store.now) tables.new from end }
+    ensures { Serves store.now tables.new from end }
 {
     names::fill(store, &mut tables[..Tables::NEXTS], from, end);
     brought::fill(store, &mut tables[Tables::NEXTS..]);

@@ -8,18 +8,16 @@ ghost use Rattle.tables.specs.Brought.{Nexted};
 ghost use Rattle.tables.specs.Names.{Tabled, Zeroed, code_at, name_bytes, placed};
 ghost use Rattle.tables.specs.Serves.{Serves};
 ghost use Rattle.tables.specs.Tables.{tables_in};
-ghost use Rattle.store.specs.Store.{held};
 
 use crate::Tables;
 use crate::brought::find_brought;
+use context::Brought;
 use context::lists::find_code;
 use context::lookup::{brought_at, operator_at};
-use context::{Brought, Code, Operator};
 use limits::Limits;
 use resolve::Look;
 use resolve::lookup::{of_code, of_operator};
 use store::Store;
-use store::reading::{context_at, name_at};
 use tokens::Token;
 
 #[derive(Drop)]
@@ -47,33 +45,31 @@ fn put_two(table: &mut [u8], i: usize, place: u16)
 
 // The table by name, two bytes for each: 1 more than the place, within the context, of the first code of that name. It is filled from the last
 // code to the first, so that the first counts.
-pub fn fill(store: &[u16; Store::LENGTH], table: &mut [u8], from: usize, end: usize)
+pub fn fill(store: &Store, table: &mut [u8], from: usize, end: usize)
     requires { (length table.old ≡ name_bytes) × Zeroed table.old × (from ≤ end) × (end - from < word_count) }
-    ensures { Tabled (held store.now).names (held store.now).contexts from end table.new }
+    ensures { Tabled store.now.names store.now.contexts from end table.new }
 {
-    let mut i = end;
-    while from < i {
-        i -= 1;
-        let name = name_at(store, context_at(store, i) as usize);
+    for i in (from..end).rev() {
+        let name = store.name_at(store.context_at(i) as usize);
         put_two(table, 2 * (name as usize), (i - from + 1) as u16);
     }
 }
 
 // The code that an entry of the table stands for.
-fn code_at(store: &[u16; Store::LENGTH], from: usize, place: u16) -> Code
+fn code_at(store: &Store, from: usize, place: u16) -> Option<u16>
     requires { from < 2 ^ 32 }
-    ensures { result ≡ as_code (code_at (held store.now).contexts from place) }
+    ensures { result ≡ as_code (code_at store.now.contexts from place) }
 {
     if place == 0 {
-        return Code::Absent;
+        return None;
     }
-    Code::At(context_at(store, from + (place as usize - 1)))
+    Some(store.context_at(from + (place as usize - 1)))
 }
 
 // The first code of a name, by the table if there is one.
-fn find(store: &[u16; Store::LENGTH], tables: &[u8], from: usize, end: usize, name: u16) -> Code
-    requires { (from < 2 ^ 32) × Tabled (held store.now).names (held store.now).contexts from end (tables_in tables.now).places }
-    ensures { result ≡ as_code (code_named (held store.now).names name (part (held store.now).contexts from (end - from))) }
+fn find(store: &Store, tables: &[u8], from: usize, end: usize, name: u16) -> Option<u16>
+    requires { (from < 2 ^ 32) × Tabled store.now.names store.now.contexts from end (tables_in tables.now).places }
+    ensures { result ≡ as_code (code_named store.now.names name (part store.now.contexts from (end - from))) }
 {
     if tables.len() < Tables::BYTES {
         return find_code(store, from, end, name);
@@ -83,57 +79,47 @@ fn find(store: &[u16; Store::LENGTH], tables: &[u8], from: usize, end: usize, na
 }
 
 // What a name means, by the code that was found for it.
-fn look_name(store: &[u16; Store::LENGTH], x: Code) -> Look
-    ensures { result ≡ operator_ref (held store.now).facts (operator_in (held store.now).facts x) }
+fn look_name(store: &Store, x: Option<u16>) -> Option<Look>
+    ensures { result ≡ operator_ref store.now.facts (operator_in store.now.facts x) }
 {
-    match x {
-        Code::At(o) => of_operator(store, operator_at(store, o)),
-        Code::Absent => Look::NoRef,
-    }
+    of_operator(store, operator_at(store, x?))
 }
 
 // I!F, by what I brought.
 fn look_brought(
-    store: &[u16; Store::LENGTH],
+    store: &Store,
     tables: &[u8],
-    x: Brought,
+    x: Option<Brought>,
     inst: u16,
     name: u16,
-) -> Look
-    requires { Nexted (held store.now).names (tables_in tables.now).nexts }
-    ensures { result ≡ brought_ref (held store.now).names (held store.now).facts inst name x }
+) -> Option<Look>
+    requires { Nexted store.now.names (tables_in tables.now).nexts }
+    ensures { result ≡ brought_ref store.now.names store.now.facts inst name x }
 {
-    match x {
-        Brought::Brings(first, count) => {
-            if (first as usize) + (count as usize) <= Limits::DEFINITIONS {
-                of_code(store, find_brought(store, tables, first, count, inst, name))
-            } else {
-                Look::NoRef
-            }
-        }
-        Brought::Nothing => Look::NoRef,
+    let b = x?;
+    if (b.first as usize) + (b.count as usize) <= Limits::DEFINITIONS {
+        of_code(store, find_brought(store, tables, b, inst, name))
+    } else {
+        None
     }
 }
 
 // I!F, by the code that was found for I.
-fn look_instance(store: &[u16; Store::LENGTH], tables: &[u8], x: Code, inst: u16, name: u16) -> Look
-    requires { Nexted (held store.now).names (tables_in tables.now).nexts }
-    ensures { result ≡ brought_ref (held store.now).names (held store.now).facts inst name (brought_in (held store.now).facts x) }
+fn look_instance(store: &Store, tables: &[u8], x: Option<u16>, inst: u16, name: u16) -> Option<Look>
+    requires { Nexted store.now.names (tables_in tables.now).nexts }
+    ensures { result ≡ brought_ref store.now.names store.now.facts inst name (brought_in store.now.facts x) }
 {
-    match x {
-        Code::At(o) => look_brought(store, tables, brought_at(store, o), inst, name),
-        Code::Absent => Look::NoRef,
-    }
+    look_brought(store, tables, brought_at(store, x?), inst, name)
 }
 
 // What a token means in the context.
-pub fn look(store: &[u16; Store::LENGTH], tables: &[u8], from: usize, end: usize, t: Token) -> Look
-    requires { Serves (held store.now) tables.now from end }
-    ensures { result ≡ look_in (held store.now).names (held store.now).facts (part (held store.now).contexts from (end - from)) t }
+pub fn look(store: &Store, tables: &[u8], from: usize, end: usize, t: Token) -> Option<Look>
+    requires { Serves store.now tables.now from end }
+    ensures { result ≡ look_in store.now.names store.now.facts (part store.now.contexts from (end - from)) t }
 {
     match t {
-        Token::Parameter(_) => Look::NoRef,
-        Token::Bound(_) => Look::NoRef,
+        Token::Parameter(_) => None,
+        Token::Bound(_) => None,
         Token::Name(n, _) => look_name(store, find(store, tables, from, end, n)),
         Token::InstanceOperator(i, f, _) => look_instance(
             store,
@@ -142,8 +128,7 @@ pub fn look(store: &[u16; Store::LENGTH], tables: &[u8], from: usize, end: usize
             i,
             f,
         ),
-        Token::BuiltIn(_) => Look::NoRef,
-        Token::Literal(_) => Look::NoRef,
-        Token::NoToken => Look::NoRef,
+        Token::BuiltIn(_) => None,
+        Token::Literal(_) => None,
     }
 }

@@ -4,12 +4,12 @@ use mathlib.Core.List.{List}
 use mathlib.Core.Path.{◌∙◌, ◌≡◌, ap, refl, subst, sym}
 use borrow.Author.Tests.{ltb-false, ltb-true}
 use lib.Dec.{ltb}
-use lib.ListN.{get_or-eq_default, get_or, length, length-set, set}
+use lib.ListN.{get_or-eq_default, get_or-replicate, get_or, length, length-replicate, length-set, replicate, set}
 use lib.Seq.{get_or-set_other, get_or-set_same}
 use native.Mathlib.Omega.{arith}
 use Prim.Native.Nat.{◌+◌, ◌<◌, ◌≤◌, ℕ}
 use Rattle.limits.specs.Limits.{max_definitions}
-use Rattle.store.specs.Store.{Store}
+use Rattle.store.specs.declared.Store.{Store}
 use Rattle.callees.specs.Walk.{ChainEntered}
 use Rattle.unfolding.proofs.AllRight.{RightBelow}
 use Rattle.unfolding.proofs.Callees.{right-shapes}
@@ -53,35 +53,20 @@ beginning-end shapes along i s l e = record { long = s.long; same = same }
         go false z =
             get_or-eq_default along 0 (omega (arith, s.long, ltb-false j i z)) ∙ sym (get_or-eq_default shapes 0 (omega (arith, ltb-false j i z)))
 
--- shapes made 0, the first i of them
-pub record Clearing (shapes : List ℕ) (i : ℕ) : Type 0 where
-  pub long : length shapes ≡ max_definitions
-  pub none : (j : ℕ) → j < i → get_or shapes j 0 ≡ 0
-
-pub clearing-start : (shapes : List ℕ) → length shapes ≡ max_definitions → Clearing shapes 0
-clearing-start shapes e = record { long = e; none = λ j q. absurd (omega arith) }
-
-pub clearing-turn : (shapes : List ℕ) (i : ℕ) → Clearing shapes i → i < max_definitions → Clearing (set shapes i 0) (i + 1)
-clearing-turn shapes i s l = record { long = length-set shapes i 0 ∙ s.long; none = none }
+-- past the end of a list of zeros there is 0 too
+zeros : (n j : ℕ) → get_or (replicate {A = ℕ} n 0) j 0 ≡ 0
+zeros n j = go (ltb j n) refl
   where
-    none : (j : ℕ) → j < i + 1 → get_or (set shapes i 0) j 0 ≡ 0
-    none j q = go (ltb j i) refl
-      where
-        go : (y : Bool) → ltb j i ≡ y → get_or (set shapes i 0) j 0 ≡ 0
-        go true z = get_or-set_other shapes i j 0 0 (λ (w : j ≡ i). omega (arith, ltb-true j i z)) ∙ s.none j (ltb-true j i z)
-        go false z =
-            let w : j ≡ i = omega (arith, ltb-false j i z) in
-            ap (λ (y : ℕ). get_or (set shapes i 0) y 0) w ∙ get_or-set_same shapes i 0 0 (omega (arith, s.long))
+    go : (y : Bool) → ltb j n ≡ y → get_or (replicate {A = ℕ} n 0) j 0 ≡ 0
+    go true z = get_or-replicate {A = ℕ} n j 0 0 (ltb-true j n z)
+    go false z = get_or-eq_default (replicate {A = ℕ} n 0) 0 (omega (arith, length-replicate {A = ℕ} n 0, ltb-false j n z))
 
-pub clearing-end : (shapes : List ℕ) (i : ℕ) → Clearing shapes i → max_definitions ≤ i → Cleared shapes
-clearing-end shapes i s l = record { long = s.long; none = none }
-  where
-    none : (j : ℕ) → get_or shapes j 0 ≡ 0
-    none j = go (ltb j i) refl
-      where
-        go : (y : Bool) → ltb j i ≡ y → get_or shapes j 0 ≡ 0
-        go true z = s.none j (ltb-true j i z)
-        go false z = get_or-eq_default shapes 0 (omega (arith, s.long, ltb-false j i z))
+pub cleared : (before shapes : List ℕ) → shapes ≡ replicate {A = ℕ} (length before) 0 → length before ≡ max_definitions → Cleared shapes
+cleared before shapes e l =
+    record {
+      long = ap length e ∙ length-replicate {A = ℕ} (length before) 0 ∙ l;
+      none = λ j. ap (λ (y : List ℕ). get_or y j 0) e ∙ zeros (length before) j;
+    }
 
 -- the chain entered, and the shapes of its stand-ins stored
 pub prepared : (file refs : List ℕ) (v : Store) (n d : ℕ) (shapes : List ℕ) (k : ℕ) (numbers currents outers before along : List ℕ)

@@ -12,7 +12,9 @@ use Rattle.limits.specs.Limits.{max_arity, max_declarations}
 use Rattle.theory.specs.Term.{Kind, Term, constant, kind_arity, variable}
 use Rattle.symbols.specs.Spell.{shape_limit, shape_of, spell}
 use Rattle.texts.specs.Text.{no_declaration}
-use Rattle.store.specs.Store.{Store, kind_at}
+use Rattle.store.specs.Store.{kind_at}
+use Rattle.store.specs.declared.Store.{Store}
+use Rattle.store.specs.declared.Facts.{Facts}
 use Rattle.worlds.specs.Rows.{world_of}
 use Rattle.worlds.specs.World.{AnyName, Declared}
 use Rattle.entering.proofs.Outset.{kind_number}
@@ -27,7 +29,7 @@ use Rattle.templates.specs.Shaped.{Along, ChainHeld, NextShape, ShapedBelow, Sta
 use Rattle.templates.specs.Told.{Told}
 
 -- Two declarations compared.
-module _ (names facts declared : List ℕ) (e f o p : ℕ) (here : o ≡ get_or declared e 0) (there : p ≡ get_or declared f 0) where
+module _ (names : List ℕ) (facts : List Facts) (declared : List ℕ) (e f o p : ℕ) (here : o ≡ get_or declared e 0) (there : p ≡ get_or declared f 0) where
   pub alike-named : (a b c d : ℕ) (r : Bool) → a ≡ get_or names o 0 → b ≡ get_or names p 0 → a ≡ b → c ≡ kind_at facts o → d ≡ kind_at facts p → r ≡ eqb c d
       → r ≡ are_alike names facts declared e f
   unfolding are_alike
@@ -45,7 +47,7 @@ module _ (names facts declared : List ℕ) (e f o p : ℕ) (here : o ≡ get_or 
       (λ (z : get_or names (get_or declared e 0) 0 ≡ get_or names (get_or declared f 0) 0).
       q (ea ∙ ap (λ (i : ℕ). get_or names i 0) here ∙ z ∙ sym (eb ∙ ap (λ (i : ℕ). get_or names i 0) there)))))
 
-module _ (names facts declared : List ℕ) where
+module _ (names : List ℕ) (facts : List Facts) (declared : List ℕ) where
   -- The first that is like e.
   pub alike-found : (e f : ℕ) (b : Bool) → f < e → b ≡ are_alike names facts declared e f → b ≡ true → FirstAlike names facts declared e f
   alike-found e f b q h t = record { before = omega arith; alike = sym h ∙ t }
@@ -90,7 +92,7 @@ module _ (file refs : List ℕ) (v : Store) (n : ℕ) (numbers currents outers :
   abbrev names : List ℕ
   names = v.names
 
-  abbrev facts : List ℕ
+  abbrev facts : List Facts
   facts = v.facts
 
   abbrev declared : List ℕ

@@ -1,5 +1,5 @@
 -- The highest number that a string calls: how the code finds it, and what it says.
-use mathlib.Core.Bool.{Bool, ◌&&◌, ◌||◌, false, true}
+use mathlib.Core.Bool.{Bool, ◌||◌, false, true}
 use mathlib.Core.List.{List, [], ◌∷◌}
 use mathlib.Core.Path.{◌≡◌, ap, refl}
 use borrow.Author.Tests.{eq-eqb, leb-false, lt-leb}
@@ -104,13 +104,6 @@ pub called-arm : (g : Sign) (n r : ℕ) → g ≡ Call n → r ≡ n + 1 → r �
 called-arm g n r e q =
     let z : number_called (symbol_of g) ≡ suc n = ap (λ (y : Sign). number_called (symbol_of y)) e in
     omega arith
-
--- two tests, one after the other
-pub goes_first : (a b r : Bool) → a ≡ true → r ≡ b → r ≡ (a && b)
-goes_first a b r e q = rw e q
-
-pub goes_none : (a b r : Bool) → a ≡ false → r ≡ false → r ≡ (a && b)
-goes_none a b r e q = rw e q
 
 pub most-small : (g : Symbol) (most d most' : ℕ) → is_far g ≡ false → d ≡ number_called g → most' ≡ max most d → most ≤ shape_count → most' ≤ shape_count
 most-small g most d most' f e q l = omega (arith, called-small g f)

@@ -10,12 +10,11 @@ use native.Mathlib.Omega.{arith}
 use Prim.Native.Nat.{◌*◌, ◌+◌, ◌-◌, ◌<◌, ◌≤◌, suc, ℕ}
 use Rattle.limits.specs.Limits.{max_declarations, max_definitions}
 use Rattle.symbols.specs.Spell.{spell}
-use Rattle.symbols.specs.Symbol.{calls}
 use Rattle.theory.proofs.Bytes.{bytes}
 use Rattle.theory.specs.Term.{Term, kind_arity}
 use Rattle.rules.specs.State.{params_of}
 use Rattle.texts.specs.Text.{no_declaration}
-use Rattle.store.specs.Store.{Store}
+use Rattle.store.specs.declared.Store.{Store}
 use Rattle.worlds.proofs.Uses.{uses-more}
 use Rattle.worlds.specs.Rows.{world_of}
 use Rattle.worlds.specs.World.{World}

@@ -13,7 +13,8 @@ use Rattle.limits.specs.Limits.{file_bytes, max_declarations, max_definitions}
 use Rattle.symbols.specs.Spell.{max_params, shape_limit, shape_of, spell}
 use Rattle.symbols.specs.Symbol.{Symbol}
 use Rattle.theory.specs.Term.{Arities, Term, WellFormed}
-use Rattle.store.specs.Store.{Store}
+use Rattle.store.specs.declared.Store.{Store}
+use Rattle.store.specs.declared.Facts.{Facts}
 use Rattle.worlds.proofs.Uses.{uses-more}
 use Rattle.worlds.specs.Rows.{world_of}
 use Rattle.strings.proofs.Reading.{stands}
@@ -46,7 +47,7 @@ string-shape ar p t shapes end out room fits len h r s short big long near forme
     kept.same (omega arith) ∙ z
 
 module _ (file refs : List ℕ) (v : Store) (numbers currents outers : List ℕ) where
-  abbrev facts : List ℕ
+  abbrev facts : List Facts
   facts = v.facts
 
   abbrev declared : List ℕ

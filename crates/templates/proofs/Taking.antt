@@ -1,26 +1,27 @@
 -- The stand-ins taken out of a definition's text, the highest number first.
-use mathlib.Core.Bool.{Bool, ◌&&◌, false, true}
+use mathlib.Core.Bool.{Bool, false, true}
 use mathlib.Core.List.{List}
 use mathlib.Core.Logic.{◌⊎◌, inl}
 use mathlib.Core.Path.{◌∙◌, ◌≡◌, ap, refl, subst, sym}
-use borrow.Author.Tests.{le-leb, leb-false, leb-true, lt-leb, lt-ltb, ltb-true, ne_eqb}
-use lib.Dec.{eqb, leb, ltb}
+use borrow.Author.Tests.{le-leb, leb-false, leb-true, lt-leb, ne_eqb}
+use lib.Dec.{eqb, leb}
 use lib.ListN.{get_or, length}
 use native.Mathlib.Omega.{arith}
 use Prim.Native.Nat.{◌+◌, ◌-◌, ◌<◌, ◌≤◌, suc, ℕ}
 use Rattle.limits.specs.Limits.{max_definitions}
 use Rattle.symbols.specs.Spell.{spell}
 use Rattle.symbols.specs.Symbol.{Spelt, Symbol, calls, size, wide}
-use Rattle.theory.proofs.Lists.{never}
 use Rattle.theory.specs.Lists.{any}
 use Rattle.theory.specs.Term.{Term, kind_arity}
 use Rattle.rules.specs.State.{params_of}
 use Rattle.texts.specs.Text.{no_declaration}
-use Rattle.store.specs.Store.{Store}
+use Rattle.store.specs.declared.Store.{Store}
+use Rattle.store.specs.declared.Facts.{Facts}
 use Rattle.worlds.specs.Rows.{world_of}
 use Rattle.strings.proofs.Reading.{stands}
 use Rattle.strings.specs.Read.{string_at}
-use Rattle.strings.specs.declared.Filled.{Filled}
+use Rattle.std.specs.Prelude.{None, Option, Some}
+use Rattle.std.proofs.lemmas.Option.{none-some, same_Some}
 use Rattle.chains.specs.Walk.{outer_after}
 use Rattle.unfolding.proofs.TemplateSteps.{StandInCalled, called-callee, calls-both, calls-down, few-along, own-near, standin-down, standin-near, stray, stray-standin, taken-called, taken-on, taken_start}
 use Rattle.unfolding.specs.CalleeTerm.{max_links, own_term, sense_along, stand_in_term}
@@ -48,13 +49,13 @@ mid-reads file refs v declared n d k numbers currents outers along x work len at
     stands work 0 (spell (shapes_of along) at.term) len at.spelt l at.mid.near
 
 module _ (file refs : List ℕ) (v : Store) (numbers currents outers along : List ℕ) where
-  abbrev facts : List ℕ
+  abbrev facts : List Facts
   facts = v.facts
 
   abbrev declared : List ℕ
   declared = v.declared
 
-  module _ (m l e : ℕ) (text : List ℕ) (room : ℕ) (fits : Bool) (tlen : ℕ) (before : List ℕ) (len : ℕ) (after : List ℕ) (r : Filled)
+  module _ (m l e : ℕ) (text : List ℕ) (room : ℕ) (fits : Bool) (tlen : ℕ) (before : List ℕ) (len : ℕ) (after : List ℕ) (r : Option ℕ)
       (high : first_stand_in ≤ m) (ql : l ≡ level_of m - 1) (qe : e ≡ entry_of m)
       (s : StandInString file refs v numbers currents outers along l e text room fits tlen) (big : text_bytes ≤ room) (fills : length text ≡ room)
       (w : Rewritten before len m text tlen along after r) where
@@ -136,71 +137,73 @@ module _ (file refs : List ℕ) (v : Store) (numbers currents outers along : Lis
             near = replaced.near;
           }
 
-      on : (r.fits ≡ true → (at' : MidAt file refs v declared n d k numbers currents outers along x after r.len) × (highest_number (spell (shapes_of along) at'.term) ≤ m))
-          × (r.fits ≡ false → MidLong file refs v declared n d k numbers currents outers along x (length before))
+      on : ((q : ℕ) → r ≡ Some q → (at' : MidAt file refs v declared n d k numbers currents outers along x after q) × (highest_number (spell (shapes_of along) at'.term) ≤ m))
+          × (r ≡ None → MidLong file refs v declared n d k numbers currents outers along x (length before))
       on = (fit, unfit)
         where
-          fit : r.fits ≡ true → (at' : MidAt file refs v declared n d k numbers currents outers along x after r.len) × (highest_number (spell (shapes_of along) at'.term) ≤ m)
-          fit f = (
-            record { term = replaced.term; mid = mid; spelt = (replaced.yes f).0 },
+          fit : (q : ℕ) → r ≡ Some q → (at' : MidAt file refs v declared n d k numbers currents outers along x after q) × (highest_number (spell (shapes_of along) at'.term) ≤ m)
+          fit q f = (
+            record { term = replaced.term; mid = mid; spelt = (replaced.yes q f).0 },
             highest-low (spell σ replaced.term) m
                 (calls-down m (spell σ replaced.term)
-                (replaced.others (λ i. leb (suc m) i) (highest-none (spell σ t) (suc m) (omega arith)) (down (suc m) (omega arith))) (replaced.yes f).1),
+                (replaced.others (λ i. leb (suc m) i) (highest-none (spell σ t) (suc m) (omega arith)) (down (suc m) (omega arith))) (replaced.yes q f).1),
           )
 
-          unfit : r.fits ≡ false → MidLong file refs v declared n d k numbers currents outers along x (length before)
+          unfit : r ≡ None → MidLong file refs v declared n d k numbers currents outers along x (length before)
           unfit f = record { term = replaced.term; mid = mid; long = subst (λ (y : ℕ). (y < size (spell σ replaced.term)) ⊎ (wide (spell σ replaced.term) ≡ true)) w.long (replaced.no f) }
 
     pub taken_out : TakenOut file refs v declared m numbers currents outers along before len after r
     taken_out = record { long = w.long; within = w.within; on = on }
 
-goes_on : (a b r : Bool) → r ≡ (a && b) → r ≡ true → (a ≡ true) × (b ≡ true)
-goes_on true true r e q = (refl, refl)
-goes_on true false r e q = never (sym q ∙ e)
-goes_on false b r e q = never (sym q ∙ e)
-
-goes-not : (a b r : Bool) → r ≡ (a && b) → r ≡ false → (a ≡ true → b ≡ true) → a ≡ false
-goes-not true true r e q f = never (sym e ∙ q)
-goes-not true false r e q f = sym (f refl)
-goes-not false b r e q f = refl
-
 -- one more than the highest number left
-pub step-taken : (file refs : List ℕ) (v : Store) (declared : List ℕ) (h m : ℕ) (numbers currents outers along before : List ℕ) (len : ℕ) (after : List ℕ) (f : Filled) (high : ℕ)
-    (goes : Bool) (r : Unfolded) → suc m ≡ h → TakenOut file refs v declared m numbers currents outers along before len after f
-    → high ≡ highest_number (string_at after 0 f.len) → high ≤ shape_count → goes ≡ (f.fits && ltb high h) → r.fits ≡ goes → r.len ≡ f.len → r.highest ≡ high
-    → StepTaken file refs v declared h numbers currents outers along before len after r
-step-taken file refs v declared h m numbers currents outers along before len after f high goes r one o e small g rf rl rh =
-    record {
-      long = o.long;
-      within = omega (arith, rl, o.within);
-      small = omega (arith, rh);
-      less = λ (q : r.fits ≡ true). omega (arith, rh, ltb-true high h (goes_on f.fits (ltb high h) r.fits (rf ∙ g) q).1);
-      on = on;
-    }
-  where
-    on : (n k : ℕ) (x : Told file refs v declared n) (d : ℕ) → Known file refs v declared n d k numbers currents outers along x
-        → (at : MidAt file refs v declared n d k numbers currents outers along x before len) → highest_number (spell (shapes_of along) at.term) ≡ h
-        → (r.fits ≡ true
-        → (at' : MidAt file refs v declared n d k numbers currents outers along x after r.len) × (highest_number (spell (shapes_of along) at'.term) ≡ r.highest))
-        × (r.fits ≡ false → MidLong file refs v declared n d k numbers currents outers along x (length before))
-    on n k x d known at top = (fit, unfit)
-      where
-        fit : r.fits ≡ true → (at' : MidAt file refs v declared n d k numbers currents outers along x after r.len) × (highest_number (spell (shapes_of along) at'.term) ≡ r.highest)
-        fit q =
-            let y = (o.on n k x d known at (top ∙ sym one)).0 (goes_on f.fits (ltb high h) r.fits (rf ∙ g) q).0 in (
-              record { term = y.0.term; mid = y.0.mid; spelt = subst (Spelt after 0 (spell (shapes_of along) y.0.term)) (sym rl) y.0.spelt },
-              sym (rh ∙ e ∙ ap highest_number (mid-reads file refs v declared n d k numbers currents outers along x after f.len y.0 (omega (arith, o.long, o.within)))),
-            )
+module _ (file refs : List ℕ) (v : Store) (declared : List ℕ) (h m : ℕ) (numbers currents outers along before : List ℕ) (len : ℕ) (after : List ℕ) (f : Option ℕ)
+    (one : suc m ≡ h) (o : TakenOut file refs v declared m numbers currents outers along before len after f) where
+  pub step-short : f ≡ None → (r : Option Unfolded) → r ≡ None → StepTaken file refs v declared h numbers currents outers along before len after r
+  step-short e r z =
+      rw z
+      (record {
+        long = o.long;
+        within = λ u q. absurd (none-some u q);
+        small = λ u q. absurd (none-some u q);
+        less = λ u q. absurd (none-some u q);
+        on = λ n k x d known at top. (λ u q. absurd (none-some u q), λ q. (o.on n k x d known at (top ∙ sym one)).1 e);
+      })
 
-        unfit : r.fits ≡ false → MidLong file refs v declared n d k numbers currents outers along x (length before)
-        unfit q =
-            (o.on n k x d known at (top ∙ sym one)).1
-            (goes-not f.fits (ltb high h) r.fits (rf ∙ g) q
-            (λ a.
-            let y = (o.on n k x d known at (top ∙ sym one)).0 a in
-            let z : highest_number (string_at after 0 f.len) ≡ highest_number (spell (shapes_of along) y.0.term) =
-            ap highest_number (mid-reads file refs v declared n d k numbers currents outers along x after f.len y.0 (omega (arith, o.long, o.within))) in
-            lt-ltb high h (omega (arith, e, z, y.1))))
+  module _ (q high : ℕ) (fits : f ≡ Some q) (e : high ≡ highest_number (string_at after 0 q)) (small : high ≤ shape_count) where
+    reads : (n k : ℕ) (x : Told file refs v declared n) (d : ℕ) → Known file refs v declared n d k numbers currents outers along x
+        → (at : MidAt file refs v declared n d k numbers currents outers along x after q) → highest_number (spell (shapes_of along) at.term) ≡ high
+    reads n k x d known at =
+        let l = o.within q fits in
+        sym (e ∙ ap highest_number (mid-reads file refs v declared n d k numbers currents outers along x after q at (omega (arith, o.long))))
+
+    pub step-taken : high < h → StepTaken file refs v declared h numbers currents outers along before len after (Some (record { len = q; highest = high }))
+    step-taken low =
+        record {
+          long = o.long;
+          within = λ u z. rw (← same_Some _ u z) (o.within q fits);
+          small = λ u z. rw (← same_Some _ u z) small;
+          less = λ u z. rw (← same_Some _ u z) low;
+          on = λ n k x d known at top. (
+            λ u z. rw (← same_Some _ u z) (let y = (o.on n k x d known at (top ∙ sym one)).0 q fits in (y.0, reads n k x d known y.0)),
+            λ z. absurd (none-some _ (sym z)),
+          );
+        }
+
+    -- it would be no lower
+    pub step-high : h ≤ high → StepTaken file refs v declared h numbers currents outers along before len after None
+    step-high l =
+        record {
+          long = o.long;
+          within = λ u z. absurd (none-some u z);
+          small = λ u z. absurd (none-some u z);
+          less = λ u z. absurd (none-some u z);
+          on = λ n k x d known at top. (
+            λ u z. absurd (none-some u z),
+            λ z.
+                let y = (o.on n k x d known at (top ∙ sym one)).0 q fits in
+                absurd (omega (arith, y.1, reads n k x d known y.0)),
+          );
+        }
 
 -- The string is that of a term on the way, and h is one more than the highest number that it calls.
 pub record Underway (file refs : List ℕ) (v : Store) (declared numbers currents outers along before : List ℕ) (len : ℕ) (work : List ℕ) (q h : ℕ) : Type 0 where
@@ -223,47 +226,48 @@ module _ (file refs : List ℕ) (v : Store) (declared numbers currents outers al
       }
 
   module _ (work : List ℕ) (q h : ℕ) (u : Underway file refs v declared numbers currents outers along before len work q h) where
-    pub underway-turn : (after : List ℕ) (r : Unfolded) → StepTaken file refs v declared h numbers currents outers along work q after r → r.fits ≡ true
-        → Underway file refs v declared numbers currents outers along before len after r.len r.highest
-    underway-turn after r s f =
+    pub underway-turn : (after : List ℕ) (r : Option Unfolded) → StepTaken file refs v declared h numbers currents outers along work q after r → (t : Unfolded) → r ≡ Some t
+        → Underway file refs v declared numbers currents outers along before len after t.len t.highest
+    underway-turn after r s t f =
         record {
           long = s.long ∙ u.long;
-          within = omega (arith, s.within, u.long);
-          small = s.small;
+          within = omega (arith, s.within t f, u.long);
+          small = s.small t f;
           on = λ n k x d known at.
               let y = u.on n k x d known at in
-              (s.on n k x d known y.0 y.1).0 f;
+              (s.on n k x d known y.0 y.1).0 t f;
         }
 
     -- a string too long
-    pub underway-no : (after : List ℕ) (r : Unfolded) (z : Filled) → StepTaken file refs v declared h numbers currents outers along work q after r → r.fits ≡ false
-        → z.fits ≡ false → z.len ≡ q → AllTaken file refs v declared numbers currents outers along before len after z
-    underway-no after r z s f zf zl =
-        record {
+    pub underway-no : (after : List ℕ) (r : Option Unfolded) → StepTaken file refs v declared h numbers currents outers along work q after r → r ≡ None
+        → (z : Option ℕ) → z ≡ None → AllTaken file refs v declared numbers currents outers along before len after z
+    underway-no after r s f z zn =
+        rw zn
+        (record {
           long = s.long ∙ u.long;
-          within = omega (arith, u.within);
+          within = λ i g. absurd (none-some i g);
           on = λ n k x d known at.
               let y = u.on n k x d known at in
               let m : MidLong file refs v declared n d k numbers currents outers along x (length work) = (s.on n k x d known y.0 y.1).1 f in (
-                λ g. never (sym g ∙ zf),
+                λ i g. absurd (none-some i g),
                 λ g. subst (MidLong file refs v declared n d k numbers currents outers along x) u.long m,
               );
-        }
+        })
 
-    pub underway-end : (z : Filled) → h ≤ first_stand_in → z.fits ≡ true → z.len ≡ q → AllTaken file refs v declared numbers currents outers along before len work z
-    underway-end z top zf zl =
+    pub underway-end : h ≤ first_stand_in → AllTaken file refs v declared numbers currents outers along before len work (Some q)
+    underway-end top =
         record {
           long = u.long;
-          within = omega (arith, u.within);
+          within = λ i g. rw (← same_Some q i g) u.within;
           on = λ n k x d known at.
               let y = u.on n k x d known at in (
-                λ g. (
-                  record { term = y.0.term; mid = y.0.mid; spelt = subst (Spelt work 0 (spell (shapes_of along) y.0.term)) (sym zl) y.0.spelt },
+                λ i g. (
+                  record { term = y.0.term; mid = y.0.mid; spelt = subst (Spelt work 0 (spell (shapes_of along) y.0.term)) (same_Some q i g) y.0.spelt },
                   calls-both (stray x.decls d (world_of x.rows d) k) (λ i. leb first_stand_in i) (λ i. leb d i)
                       (λ i a b. under n k x d i a b) (spell (shapes_of along) y.0.term) y.0.mid.taken.known
                       (highest-none (spell (shapes_of along) y.0.term) first_stand_in (omega (arith, y.1))),
                 ),
-                λ g. never (sym zf ∙ g),
+                λ g. absurd (none-some q (sym g)),
               );
         }
       where
@@ -308,26 +312,25 @@ module _ (file refs : List ℕ) (v : Store) (k : ℕ) (numbers currents outers a
           long = inl (own-strung.spells.short (s.told ∙ lt-leb len room l));
         }
 
-  pub own-taken : (after : List ℕ) (r : Filled) → len ≤ length work
+  pub own-taken : (after : List ℕ) (r : Option ℕ) → len ≤ length work
       → AllTaken file refs v v.declared numbers currents outers along work len after r
       → OwnTaken file refs v v.declared k numbers currents outers along after r
   own-taken after r l a =
       record {
         long = a.long ∙ fills ∙ full;
-        within = omega (arith, a.within);
+        within = λ q e. omega (arith, a.within q e);
         on = λ n x d known.
             let y = a.on n k x d known (own-mid-at n x d known (omega arith)) in
             (y.0, λ f. subst (MidLong file refs v v.declared n d k numbers currents outers along x) (fills ∙ full) (y.1 f));
       }
 
-  pub own-taken-no : (r : Filled) → length work < len → r.fits ≡ false → r.len ≡ 0
-      → OwnTaken file refs v v.declared k numbers currents outers along work r
-  own-taken-no r over f e =
+  pub own-taken-no : length work < len → OwnTaken file refs v v.declared k numbers currents outers along work None
+  own-taken-no over =
       record {
         long = fills ∙ full;
-        within = omega arith;
+        within = λ q e. absurd (none-some q e);
         on = λ n x d known. (
-          λ g. never (sym g ∙ f),
+          λ q e. absurd (none-some q e),
           λ g. subst (MidLong file refs v v.declared n d k numbers currents outers along x) full (own-mid-long n x d known (omega arith)),
         );
       }

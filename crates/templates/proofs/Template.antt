@@ -16,11 +16,11 @@ use Rattle.theory.specs.Expand.{arities_of}
 use Rattle.theory.specs.Lists.{any}
 use Rattle.theory.specs.Term.{Term}
 use Rattle.rules.specs.State.{params_of, templates_of}
-use Rattle.store.specs.Store.{Store}
+use Rattle.store.specs.declared.Store.{Store}
 use Rattle.worlds.proofs.Uses.{uses-more}
 use Rattle.worlds.specs.Rows.{world_of}
 use Rattle.strings.specs.Read.{far}
-use Rattle.strings.specs.declared.Filled.{Filled}
+use Rattle.std.specs.Prelude.{Option}
 use Rattle.unfolding.proofs.AllRight.{RightBelow}
 use Rattle.unfolding.proofs.Callees.{right-shapes}
 use Rattle.unfolding.proofs.SenseLaws.{arity-few, callee-shapes}
@@ -40,7 +40,7 @@ use Rattle.templates.specs.Shaped.{Prepared}
 use Rattle.templates.specs.Taking.{Known, MidAt, MidLong, OwnTaken, work_bytes}
 use Rattle.templates.specs.Told.{Told}
 
-module _ (file refs : List ℕ) (v : Store) (declared : List ℕ) (n d : ℕ) (shapes : List ℕ) (k : ℕ) (numbers currents outers along work : List ℕ) (r : Filled)
+module _ (file refs : List ℕ) (v : Store) (declared : List ℕ) (n d : ℕ) (shapes : List ℕ) (k : ℕ) (numbers currents outers along work : List ℕ) (r : Option ℕ)
     (p : Prepared file refs v declared n d shapes k numbers currents outers along) (o : OwnTaken file refs v declared k numbers currents outers along work r) where
   module _ (x : Told file refs v declared n) (there : d < x.counts.definitions) (fit : ShapesFit shapes)
       (right : RightBelow x.state (shapes_of shapes) x.counts.definitions) where
@@ -74,7 +74,7 @@ module _ (file refs : List ℕ) (v : Store) (declared : List ℕ) (n d : ℕ) (s
         own-known file refs v declared n d x.counts x.state x.rows x.decls x.end x.ready there x.room k numbers currents outers (p.chain x there) τ
         known.below (right-shapes x.state σ τ d (alike d few) (right d there)) known.shaped
 
-    module _ (at : MidAt file refs v declared n d k numbers currents outers along x work r.len) (down : any (calls (λ i. leb d i)) (spell τ at.term) ≡ false) where
+    module _ (len : ℕ) (at : MidAt file refs v declared n d k numbers currents outers along x work len) (down : any (calls (λ i. leb d i)) (spell τ at.term) ≡ false) where
       abbrev t : Term
       t = at.term
 
@@ -93,7 +93,7 @@ module _ (file refs : List ℕ) (v : Store) (declared : List ℕ) (n d : ℕ) (s
           callee t at.mid.taken.stands at.mid.taken.same down)
           ∙ spell-agree τ σ (prune τ t) 0 same-shapes
 
-      template-term : TemplateTerm x.state d (shapes_of shapes) work r.len
+      template-term : TemplateTerm x.state d (shapes_of shapes) work len
       template-term =
           record {
             term = prune τ t;
@@ -106,7 +106,7 @@ module _ (file refs : List ℕ) (v : Store) (declared : List ℕ) (n d : ℕ) (s
                 subst (λ (gs : List Symbol). any (calls (eqb d)) gs ≡ false) string
                 (calls-both (λ i. leb d i) (λ i. leb d i) (eqb d) (λ i a b. ne_eqb d i (λ (z : d ≡ i). omega (arith, leb-false d i a))) (spell τ t) down down);
             near = subst (λ (gs : List Symbol). far gs ≡ false) string at.mid.near;
-            spelt = subst (λ (gs : List Symbol). Spelt work 0 gs r.len) string at.spelt;
+            spelt = subst (λ (gs : List Symbol). Spelt work 0 gs len) string at.spelt;
           }
 
     too_long : MidLong file refs v declared n d k numbers currents outers along x work_bytes → TooLong x.state d (shapes_of shapes)
@@ -122,9 +122,9 @@ module _ (file refs : List ℕ) (v : Store) (declared : List ℕ) (n d : ℕ) (s
     made =
         let y = o.on n x d known in
         record {
-          yes = λ f.
-              let z = y.0 f in
-              template-term z.0 z.1;
+          yes = λ len f.
+              let z = y.0 len f in
+              template-term len z.0 z.1;
           no = λ f. too_long (y.1 f);
         }
 

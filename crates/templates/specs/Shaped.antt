@@ -2,7 +2,7 @@
 use Rattle.std.specs.Prelude.{List, ◌≡◌, ℕ, ◌+◌, ◌-◌, ◌*◌, ◌/◌, ◌≤◌, ◌<◌, get_or, length, set}
 use Rattle.limits.specs.Limits.{file_bytes, max_declarations, max_definitions}
 use Rattle.symbols.specs.Spell.{shape_limit, shape_of, spell}
-use Rattle.store.specs.Store.{Store}
+use Rattle.store.specs.declared.Store.{Store}
 use Rattle.worlds.specs.Rows.{world_of}
 use Rattle.chains.proofs.Knowing.{NamedIn}
 use Rattle.unfolding.specs.CalleeTerm.{Entered, max_links, own_term, sense_of, stand_in_term}

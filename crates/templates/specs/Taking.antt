@@ -1,14 +1,13 @@
 -- Stand-ins taken out of a string, the highest number first.
-use Rattle.std.specs.Prelude.{false, true, List, ◌⊎◌, ◌≡◌, ℕ, suc, ◌≤◌, ◌<◌, leb, length}
+use Rattle.std.specs.Prelude.{None, Option, Some, false, true, List, ◌⊎◌, ◌≡◌, ℕ, suc, ◌≤◌, ◌<◌, leb, length}
 use Rattle.symbols.specs.Spell.{spell}
 use Rattle.symbols.specs.Symbol.{Spelt, calls, size, wide}
 use Rattle.theory.specs.Lists.{any}
 use Rattle.theory.specs.Term.{Term}
 use Rattle.rules.specs.State.{params_of}
-use Rattle.store.specs.Store.{Store}
+use Rattle.store.specs.declared.Store.{Store}
 use Rattle.worlds.specs.Rows.{world_of}
 use Rattle.strings.specs.Read.{far}
-use Rattle.strings.specs.declared.Filled.{Filled}
 use Rattle.unfolding.proofs.AllRight.{RightBelow, StandInsShaped}
 use Rattle.unfolding.proofs.TemplateSteps.{Taken, stray}
 use Rattle.unfolding.specs.CalleeTerm.{own_term, sense_along}
@@ -49,39 +48,39 @@ pub record MidLong (file refs : List ℕ) (v : Store) (declared : List ℕ) (n d
   pub long : (room < size (spell (shapes_of along) term)) ⊎ (wide (spell (shapes_of along) term) ≡ true)
 
 -- Stand-in m, the highest number that the string calls, has been taken out.
-pub record TakenOut (file refs : List ℕ) (v : Store) (declared : List ℕ) (m : ℕ) (numbers currents outers along before : List ℕ) (len : ℕ) (after : List ℕ) (r : Filled) : Type 0 where
+pub record TakenOut (file refs : List ℕ) (v : Store) (declared : List ℕ) (m : ℕ) (numbers currents outers along before : List ℕ) (len : ℕ) (after : List ℕ) (r : Option ℕ) : Type 0 where
   pub long : length after ≡ length before
-  pub within : r.len ≤ length before
+  pub within : (q : ℕ) → r ≡ Some q → q ≤ length before
   pub on : (n k : ℕ) (x : Told file refs v declared n) (d : ℕ) → Known file refs v declared n d k numbers currents outers along x
       → (at : MidAt file refs v declared n d k numbers currents outers along x before len) → highest_number (spell (shapes_of along) at.term) ≡ suc m
-      → (r.fits ≡ true → (at' : MidAt file refs v declared n d k numbers currents outers along x after r.len) × (highest_number (spell (shapes_of along) at'.term) ≤ m))
-      × (r.fits ≡ false → MidLong file refs v declared n d k numbers currents outers along x (length before))
+      → ((q : ℕ) → r ≡ Some q → (at' : MidAt file refs v declared n d k numbers currents outers along x after q) × (highest_number (spell (shapes_of along) at'.term) ≤ m))
+      × (r ≡ None → MidLong file refs v declared n d k numbers currents outers along x (length before))
 
 -- The highest number, one less than h, taken out; what is left is told.
-pub record StepTaken (file refs : List ℕ) (v : Store) (declared : List ℕ) (h : ℕ) (numbers currents outers along before : List ℕ) (len : ℕ) (after : List ℕ) (r : Unfolded) : Type 0 where
+pub record StepTaken (file refs : List ℕ) (v : Store) (declared : List ℕ) (h : ℕ) (numbers currents outers along before : List ℕ) (len : ℕ) (after : List ℕ) (r : Option Unfolded) : Type 0 where
   pub long : length after ≡ length before
-  pub within : r.len ≤ length before
-  pub small : r.highest ≤ shape_count
-  pub less : r.fits ≡ true → r.highest < h
+  pub within : (u : Unfolded) → r ≡ Some u → u.len ≤ length before
+  pub small : (u : Unfolded) → r ≡ Some u → u.highest ≤ shape_count
+  pub less : (u : Unfolded) → r ≡ Some u → u.highest < h
   pub on : (n k : ℕ) (x : Told file refs v declared n) (d : ℕ) → Known file refs v declared n d k numbers currents outers along x
       → (at : MidAt file refs v declared n d k numbers currents outers along x before len) → highest_number (spell (shapes_of along) at.term) ≡ h
-      → (r.fits ≡ true
-      → (at' : MidAt file refs v declared n d k numbers currents outers along x after r.len) × (highest_number (spell (shapes_of along) at'.term) ≡ r.highest))
-      × (r.fits ≡ false → MidLong file refs v declared n d k numbers currents outers along x (length before))
+      → ((u : Unfolded) → r ≡ Some u
+      → (at' : MidAt file refs v declared n d k numbers currents outers along x after u.len) × (highest_number (spell (shapes_of along) at'.term) ≡ u.highest))
+      × (r ≡ None → MidLong file refs v declared n d k numbers currents outers along x (length before))
 
 -- All have been taken out.
-pub record AllTaken (file refs : List ℕ) (v : Store) (declared numbers currents outers along before : List ℕ) (len : ℕ) (after : List ℕ) (r : Filled) : Type 0 where
+pub record AllTaken (file refs : List ℕ) (v : Store) (declared numbers currents outers along before : List ℕ) (len : ℕ) (after : List ℕ) (r : Option ℕ) : Type 0 where
   pub long : length after ≡ length before
-  pub within : r.len ≤ length before
+  pub within : (q : ℕ) → r ≡ Some q → q ≤ length before
   pub on : (n k : ℕ) (x : Told file refs v declared n) (d : ℕ) → Known file refs v declared n d k numbers currents outers along x
       → MidAt file refs v declared n d k numbers currents outers along x before len
-      → (r.fits ≡ true → (at' : MidAt file refs v declared n d k numbers currents outers along x after r.len) × (any (calls (λ i. leb d i)) (spell (shapes_of along) at'.term) ≡ false))
-      × (r.fits ≡ false → MidLong file refs v declared n d k numbers currents outers along x (length before))
+      → ((q : ℕ) → r ≡ Some q → (at' : MidAt file refs v declared n d k numbers currents outers along x after q) × (any (calls (λ i. leb d i)) (spell (shapes_of along) at'.term) ≡ false))
+      × (r ≡ None → MidLong file refs v declared n d k numbers currents outers along x (length before))
 
 -- And so of the definition's text itself.
-pub record OwnTaken (file refs : List ℕ) (v : Store) (declared : List ℕ) (k : ℕ) (numbers currents outers along work : List ℕ) (r : Filled) : Type 0 where
+pub record OwnTaken (file refs : List ℕ) (v : Store) (declared : List ℕ) (k : ℕ) (numbers currents outers along work : List ℕ) (r : Option ℕ) : Type 0 where
   pub long : length work ≡ work_bytes
-  pub within : r.len ≤ work_bytes
+  pub within : (q : ℕ) → r ≡ Some q → q ≤ work_bytes
   pub on : (n : ℕ) (x : Told file refs v declared n) (d : ℕ) → Known file refs v declared n d k numbers currents outers along x
-      → (r.fits ≡ true → (at' : MidAt file refs v declared n d k numbers currents outers along x work r.len) × (any (calls (λ i. leb d i)) (spell (shapes_of along) at'.term) ≡ false))
-      × (r.fits ≡ false → MidLong file refs v declared n d k numbers currents outers along x work_bytes)
+      → ((q : ℕ) → r ≡ Some q → (at' : MidAt file refs v declared n d k numbers currents outers along x work q) × (any (calls (λ i. leb d i)) (spell (shapes_of along) at'.term) ≡ false))
+      × (r ≡ None → MidLong file refs v declared n d k numbers currents outers along x work_bytes)

@@ -4,7 +4,7 @@ use Rattle.limits.specs.Limits.{file_bytes, max_declarations}
 use Rattle.rules.specs.State.{State}
 use Rattle.laws.proofs.Within.{Within}
 use Rattle.texts.specs.Text.{Declarations}
-use Rattle.store.specs.Store.{Store}
+use Rattle.store.specs.declared.Store.{Store}
 use Rattle.context.specs.declared.Counts.{Counts}
 use Rattle.worlds.specs.Rows.{Row}
 use Rattle.worlds.proofs.Depth.{Depths}

@@ -5,6 +5,7 @@ pub mod alike;
 pub mod making;
 pub mod shaping;
 
+use callees::chain::Chain;
 use limits::Limits;
 
 // The room for what is worked out along one chain.
@@ -12,11 +13,8 @@ use limits::Limits;
 pub struct ChainRoom;
 
 impl ChainRoom {
-    // The levels of a chain, the outermost included.
-    pub const LEVELS: usize = Limits::MODULES;
-
     // The numbers that its strings call: the definitions, and a stand-in for each declaration at each level.
-    pub const SHAPES: usize = Limits::DEFINITIONS + ChainRoom::LEVELS * Limits::DECLARATIONS;
+    pub const SHAPES: usize = Limits::DEFINITIONS + Chain::LEVELS * Limits::DECLARATIONS;
 
     // One of its strings: a name of four bytes may become a call and the instances' parameters, of two bytes each.
     pub const TEXT: usize = (1 + Limits::ARITY) * Limits::FILE_BYTES / 2;

@@ -1,15 +1,13 @@
 // The shapes of the stand-ins along a chain, and of all definitions, each worked out from the string of its text.
 ghost use Rattle.std.specs.Prelude.{◌≡◌, ◌≤◌, ◌<◌, length};
 ghost use Rattle.limits.specs.Limits.{max_definitions};
-ghost use Rattle.callees.specs.Walk.{Sized};
 ghost use Rattle.unfolding.specs.CalleeTerm.{max_links};
 ghost use Rattle.templates.specs.Alike.{FirstsNoted};
-ghost use Rattle.templates.specs.Shaped.{Begun, Cleared, DefinitionStored, DefinitionsShaped, Kept, NextShape, OwnShape, Prepared, StandInShape, StandInsStored, first_stand_in, shape_count, text_bytes};
-ghost use Rattle.store.specs.Store.{held};
+ghost use Rattle.templates.specs.Shaped.{Begun, DefinitionStored, DefinitionsShaped, Kept, NextShape, OwnShape, Prepared, StandInShape, StandInsStored, first_stand_in, shape_count, text_bytes};
 
 use crate::ChainRoom;
 use crate::alike::note_firsts;
-use callees::chain::enter_chain;
+use callees::chain::Chain;
 use callees::strings::{own_string, standin_string};
 use limits::Limits;
 use store::{Lent, Store};
@@ -28,10 +26,8 @@ fn begin_shapes(shapes: &[u32], along: &mut [u32])
     requires { (length shapes.now ≡ max_definitions) × (length along.old ≡ shape_count) }
     ensures { Begun shapes.now along.new }
 {
-    let mut i: usize = 0;
-    while i < ChainRoom::SHAPES {
+    for i in 0..ChainRoom::SHAPES {
         along[i] = shape_at(shapes, i);
-        i += 1;
     }
 }
 
@@ -39,41 +35,35 @@ fn begin_shapes(shapes: &[u32], along: &mut [u32])
 fn standin_shape(
     file: &[u8],
     refs: &[u16; Lent::REFS],
-    store: &[u16; Store::LENGTH],
-    numbers: &[u16],
-    currents: &[u16],
-    outers: &[u16],
+    store: &Store,
+    chain: &Chain,
     text: &mut [u8],
     along: &[u32],
     m: usize,
 ) -> u32
-    requires { Sized numbers.now currents.now outers.now × (length text.old ≡ text_bytes) × (first_stand_in ≤ m) × (m < shape_count) }
-    ensures { StandInShape file.now refs.now (held store.now) (held store.now).declared m numbers.now currents.now outers.now along.now result }
+    requires { (length text.old ≡ text_bytes) × (first_stand_in ≤ m) × (m < shape_count) }
+    ensures { StandInShape file.now refs.now store.now store.now.declared m chain.now.numbers chain.now.currents chain.now.outers along.now result }
 {
     let l = (m - Limits::DEFINITIONS) / Limits::DECLARATIONS - 1;
     let e = (m - Limits::DEFINITIONS) % Limits::DECLARATIONS;
-    let t = standin_string(
-        file, refs, store, numbers, currents, outers, along, l, e, text,
-    );
-    kept_shape(shape_of(text, t.len))
+    let tlen = standin_string(file, refs, store, chain, along, l, e, text);
+    kept_shape(shape_of(text, tlen))
 }
 
 // The shape of stand-in m, those before it being there: it is that of an earlier one of the same level whose declaration is like its own.
 fn next_shape(
     file: &[u8],
     refs: &[u16; Lent::REFS],
-    store: &[u16; Store::LENGTH],
+    store: &Store,
     n: usize,
     firsts: &[u8],
-    numbers: &[u16],
-    currents: &[u16],
-    outers: &[u16],
+    chain: &Chain,
     text: &mut [u8],
     along: &[u32],
     m: usize,
 ) -> u32
-    requires { FirstsNoted (held store.now).names (held store.now).facts (held store.now).declared firsts.now × Sized numbers.now currents.now outers.now × (length text.old ≡ text_bytes) × (length along.now ≡ shape_count) × (first_stand_in ≤ m) × (m < shape_count) }
-    ensures { NextShape file.now refs.now (held store.now) (held store.now).declared n m numbers.now currents.now outers.now along.now result }
+    requires { FirstsNoted store.now.names store.now.facts store.now.declared firsts.now × (length text.old ≡ text_bytes) × (length along.now ≡ shape_count) × (first_stand_in ≤ m) × (m < shape_count) }
+    ensures { NextShape file.now refs.now store.now store.now.declared n m chain.now.numbers chain.now.currents chain.now.outers along.now result }
 {
     let e = (m - Limits::DEFINITIONS) % Limits::DECLARATIONS;
     if n <= e {
@@ -83,34 +73,29 @@ fn next_shape(
     if f < e {
         return shape_at(along, m - e + f);
     }
-    standin_shape(file, refs, store, numbers, currents, outers, text, along, m)
+    standin_shape(file, refs, store, chain, text, along, m)
 }
 
 // The shapes of the stand-ins of k levels.
 fn shape_levels(
     file: &[u8],
     refs: &[u16; Lent::REFS],
-    store: &[u16; Store::LENGTH],
+    store: &Store,
     n: usize,
     firsts: &[u8],
-    numbers: &[u16],
-    currents: &[u16],
-    outers: &[u16],
+    chain: &Chain,
     text: &mut [u8],
     along: &mut [u32],
     k: usize,
 )
-    requires { FirstsNoted (held store.now).names (held store.now).facts (held store.now).declared firsts.now × Sized numbers.now currents.now outers.now × (length text.old ≡ text_bytes) × (length along.old ≡ shape_count) × (k ≤ max_links) }
-    ensures { StandInsStored file.now refs.now (held store.now) (held store.now).declared n k numbers.now currents.now outers.now along.old along.new }
+    requires { FirstsNoted store.now.names store.now.facts store.now.declared firsts.now × (length text.old ≡ text_bytes) × (length along.old ≡ shape_count) × (k ≤ max_links) }
+    ensures { StandInsStored file.now refs.now store.now store.now.declared n k chain.now.numbers chain.now.currents chain.now.outers along.old along.new }
 {
+    let first = Limits::DEFINITIONS + Limits::DECLARATIONS;
     let end = Limits::DEFINITIONS + Limits::DECLARATIONS * (k + 1);
-    let mut m: usize = Limits::DEFINITIONS + Limits::DECLARATIONS;
-    while m < end {
-        let h = next_shape(
-            file, refs, store, n, firsts, numbers, currents, outers, text, along, m,
-        );
+    for m in first..end {
+        let h = next_shape(file, refs, store, n, firsts, chain, text, along, m);
         along[m] = h;
-        m += 1;
     }
 }
 
@@ -118,50 +103,42 @@ fn shape_levels(
 fn shape_standins(
     file: &[u8],
     refs: &[u16; Lent::REFS],
-    store: &[u16; Store::LENGTH],
+    store: &Store,
     n: usize,
-    numbers: &[u16],
-    currents: &[u16],
-    outers: &[u16],
+    chain: &Chain,
     text: &mut [u8],
     along: &mut [u32],
     k: usize,
 )
-    requires { Sized numbers.now currents.now outers.now × (length text.old ≡ text_bytes) × (length along.old ≡ shape_count) × (k ≤ max_links) }
-    ensures { StandInsStored file.now refs.now (held store.now) (held store.now).declared n k numbers.now currents.now outers.now along.old along.new }
+    requires { (length text.old ≡ text_bytes) × (length along.old ≡ shape_count) × (k ≤ max_links) }
+    ensures { StandInsStored file.now refs.now store.now store.now.declared n k chain.now.numbers chain.now.currents chain.now.outers along.old along.new }
 {
     if k == 0 {
         return;
     }
     let mut firsts = [0u8; Limits::DECLARATIONS];
     note_firsts(store, &mut firsts);
-    shape_levels(
-        file, refs, store, n, &firsts, numbers, currents, outers, text, along, k,
-    );
+    shape_levels(file, refs, store, n, &firsts, chain, text, along, k);
 }
 
 // The chain of definition d, with the shapes along it; how many links it has.
 pub fn prepare(
     file: &[u8],
     refs: &[u16; Lent::REFS],
-    store: &[u16; Store::LENGTH],
+    store: &Store,
     n: usize,
     shapes: &[u32],
     d: usize,
-    numbers: &mut [u16],
-    currents: &mut [u16],
-    outers: &mut [u16],
+    chain: &mut Chain,
     text: &mut [u8],
     along: &mut [u32],
 ) -> usize
-    requires { Sized numbers.old currents.old outers.old × (length text.old ≡ text_bytes) × (length along.old ≡ shape_count) × (length shapes.now ≡ max_definitions) × (d < max_definitions) }
-    ensures { Prepared file.now refs.now (held store.now) (held store.now).declared n d shapes.now result numbers.new currents.new outers.new along.new }
+    requires { (length text.old ≡ text_bytes) × (length along.old ≡ shape_count) × (length shapes.now ≡ max_definitions) × (d < max_definitions) }
+    ensures { Prepared file.now refs.now store.now store.now.declared n d shapes.now result chain.new.numbers chain.new.currents chain.new.outers along.new }
 {
     begin_shapes(shapes, along);
-    let k = enter_chain(store, d, numbers, currents, outers);
-    shape_standins(
-        file, refs, store, n, numbers, currents, outers, text, along, k,
-    );
+    let k = chain.enter(store, d);
+    shape_standins(file, refs, store, n, chain, text, along, k);
     k
 }
 
@@ -169,80 +146,57 @@ pub fn prepare(
 fn own_shape(
     file: &[u8],
     refs: &[u16; Lent::REFS],
-    store: &[u16; Store::LENGTH],
-    numbers: &[u16],
-    currents: &[u16],
-    outers: &[u16],
+    store: &Store,
+    chain: &Chain,
     text: &mut [u8],
     along: &[u32],
     k: usize,
 ) -> u32
-    requires { Sized numbers.now currents.now outers.now × (length text.old ≡ text_bytes) × (k ≤ max_links) }
-    ensures { OwnShape file.now refs.now (held store.now) (held store.now).declared k numbers.now currents.now outers.now along.now result }
+    requires { (length text.old ≡ text_bytes) × (k ≤ max_links) }
+    ensures { OwnShape file.now refs.now store.now store.now.declared k chain.now.numbers chain.now.currents chain.now.outers along.now result }
 {
-    let t = own_string(file, refs, store, numbers, currents, outers, along, k, text);
-    kept_shape(shape_of(text, t.len))
+    let tlen = own_string(file, refs, store, chain, along, k, text);
+    kept_shape(shape_of(text, tlen))
 }
 
 // The shape of definition d, by those of the definitions before it.
 fn shape_definition(
     file: &[u8],
     refs: &[u16; Lent::REFS],
-    store: &[u16; Store::LENGTH],
+    store: &Store,
     n: usize,
     d: usize,
-    numbers: &mut [u16],
-    currents: &mut [u16],
-    outers: &mut [u16],
+    chain: &mut Chain,
     text: &mut [u8],
     along: &mut [u32],
     shapes: &mut [u32],
 )
-    requires { Sized numbers.old currents.old outers.old × (length text.old ≡ text_bytes) × (length along.old ≡ shape_count) × (length shapes.old ≡ max_definitions) × (d < max_definitions) }
-    ensures { DefinitionStored file.now refs.now (held store.now) (held store.now).declared n d shapes.old shapes.new }
+    requires { (length text.old ≡ text_bytes) × (length along.old ≡ shape_count) × (length shapes.old ≡ max_definitions) × (d < max_definitions) }
+    ensures { DefinitionStored file.now refs.now store.now store.now.declared n d shapes.old shapes.new }
 {
-    let k = prepare(
-        file, refs, store, n, shapes, d, numbers, currents, outers, text, along,
-    );
-    let h = own_shape(file, refs, store, numbers, currents, outers, text, along, k);
+    let k = prepare(file, refs, store, n, shapes, d, chain, text, along);
+    let h = own_shape(file, refs, store, chain, text, along, k);
     shapes[d] = h;
-}
-
-fn clear_shapes(shapes: &mut [u32])
-    requires { length shapes.old ≡ max_definitions }
-    ensures { Cleared shapes.new }
-{
-    let mut i: usize = 0;
-    while i < Limits::DEFINITIONS {
-        shapes[i] = 0;
-        i += 1;
-    }
 }
 
 // The shapes of the first definitions, so many, in arrays lent for it.
 fn shape_all(
     file: &[u8],
     refs: &[u16; Lent::REFS],
-    store: &[u16; Store::LENGTH],
+    store: &Store,
     n: usize,
     count: usize,
-    numbers: &mut [u16],
-    currents: &mut [u16],
-    outers: &mut [u16],
+    chain: &mut Chain,
     text: &mut [u8],
     along: &mut [u32],
     shapes: &mut [u32],
 )
-    requires { Sized numbers.old currents.old outers.old × (length text.old ≡ text_bytes) × (length along.old ≡ shape_count) × (length shapes.old ≡ max_definitions) × (count ≤ max_definitions) }
-    ensures { DefinitionsShaped file.now refs.now (held store.now) (held store.now).declared n count shapes.new }
+    requires { (length text.old ≡ text_bytes) × (length along.old ≡ shape_count) × (length shapes.old ≡ max_definitions) × (count ≤ max_definitions) }
+    ensures { DefinitionsShaped file.now refs.now store.now store.now.declared n count shapes.new }
 {
-    clear_shapes(shapes);
-    let mut d: usize = 0;
-    while d < count {
-        shape_definition(
-            file, refs, store, n, d, numbers, currents, outers, text, along, shapes,
-        );
-        d += 1;
+    shapes.fill(0);
+    for d in 0..count {
+        shape_definition(file, refs, store, n, d, chain, text, along, shapes);
     }
 }
 
@@ -250,30 +204,18 @@ fn shape_all(
 pub fn shape_definitions(
     file: &[u8],
     refs: &[u16; Lent::REFS],
-    store: &[u16; Store::LENGTH],
+    store: &Store,
     n: usize,
     count: usize,
     shapes: &mut [u32],
 )
     requires { (length shapes.old ≡ max_definitions) × (count ≤ max_definitions) }
-    ensures { DefinitionsShaped file.now refs.now (held store.now) (held store.now).declared n count shapes.new }
+    ensures { DefinitionsShaped file.now refs.now store.now store.now.declared n count shapes.new }
 {
-    let mut numbers = [0u16; ChainRoom::LEVELS * Limits::DEFINITIONS];
-    let mut currents = [0u16; ChainRoom::LEVELS];
-    let mut outers = [0u16; ChainRoom::LEVELS];
+    let mut chain = Chain::room();
     let mut text = [0u8; ChainRoom::TEXT];
     let mut along = [0u32; ChainRoom::SHAPES];
     shape_all(
-        file,
-        refs,
-        store,
-        n,
-        count,
-        &mut numbers,
-        &mut currents,
-        &mut outers,
-        &mut text,
-        &mut along,
-        shapes,
+        file, refs, store, n, count, &mut chain, &mut text, &mut along, shapes,
     );
 }

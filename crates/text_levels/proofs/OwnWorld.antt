@@ -6,7 +6,7 @@ use mathlib.Core.Path.{◌∙◌, ◌≡◌, ap, refl, subst, sym}
 use lib.Dec.{ltb}
 use lib.ListN.{get_or, length}
 use native.Mathlib.Omega.{arith}
-use Prim.Native.Nat.{◌+◌, ◌-◌, ◌<◌, suc, zero, ℕ}
+use Prim.Native.Nat.{◌+◌, ◌-◌, ◌<◌, suc, ℕ}
 use Rattle.laws.proofs.Formats.{some-injective}
 use Rattle.laws.proofs.Invariant.{Good, arity-known}
 use Rattle.laws.proofs.Replacing.{cards-keep, known-below}
@@ -23,56 +23,12 @@ use Rattle.theory.specs.Expand.{arities_of}
 use Rattle.theory.specs.Lists.{All}
 use Rattle.theory.specs.Term.{Arities, Every, Everys, Fits, Term, WellFormed, binder, by_cards, declared, declared_level, defined, eval, kind_arity}
 use Rattle.theory.specs.Tree.{◌▹◌, count, map_trees, node, ⟨⟩}
-use Rattle.tokens.proofs.Places.{cases, fits}
+use Rattle.tokens.proofs.Places.{fits}
 use Rattle.tokens.proofs.Reading.{good}
-use Rattle.tokens.specs.Expr.{Expr, Exprs, Found, Founds, Placed, after, before, expr_at, found, founds, none, nones, over, several}
+use Rattle.tokens.specs.Expr.{Expr, Exprs, Placed}
 use Rattle.tokens.specs.Fold.{fold}
-use Rattle.tokens.specs.Token.{arguments_of, is_token, token_at, width_of}
 use Rattle.tokens.specs.declared.Token.{Token}
-use Rattle.tokens.specs.declared.Token.TheVariants.{Parameter, Bound, Name, InstanceOperator, BuiltIn, Literal, NoToken}
-
--- every token of a tree is one
-abbrev mutual
-  pub Tokens : Expr → Type 0
-  Tokens (node h ts) = (is_token h.token ≡ true) × TokensAll ts
-
-  pub TokensAll : Exprs → Type 0
-  TokensAll ⟨⟩ = Unit {0}
-  TokensAll (t ▹ ts) = Tokens t × TokensAll ts
-
-abbrev TokensOf : Found → Type 0
-TokensOf (found t e) = Tokens t
-TokensOf none = Unit {0}
-
-abbrev TokensOfAll : Founds → Type 0
-TokensOfAll (founds ts e) = TokensAll ts
-TokensOfAll nones = Unit {0}
-
-tokens-before : (t : Expr) (g : Founds) → Tokens t → TokensOfAll g → TokensOfAll (before t g)
-tokens-before t (founds ts e) a b = (a, b)
-tokens-before t nones a b = tt
-
-tokens-after : (x : Found) (rest : ℕ → Founds) → TokensOf x → ((e : ℕ) → TokensOfAll (rest e)) → TokensOfAll (after x rest)
-tokens-after (found t e) rest a h = tokens-before t (rest e) a (h e)
-tokens-after none rest a h = tt
-
-tokens-several : (f : ℕ → Found) → ((p : ℕ) → TokensOf (f p)) → (at k : ℕ) → TokensOfAll (several f at k)
-tokens-several f h at zero = tt
-tokens-several f h at (suc k) = tokens-after (f at) (λ e. several f e k) (h at) (λ e. tokens-several f h e k)
-
-tokens-over : (at : ℕ) (t : Token) (g : Founds) → is_token t ≡ true → TokensOfAll g → TokensOf (over at t g)
-tokens-over at t (founds ts e) a b = (a, b)
-tokens-over at t nones a b = tt
-
--- whatever is read is made of tokens
-pub tokens-found : (n : ℕ) (s : List ℕ) (at : ℕ) → TokensOf (expr_at n s at)
-unfolding expr_at
-tokens-found zero s at = tt
-tokens-found (suc n) s at =
-    let t = token_at s at in
-    cases TokensOf (is_token t)
-    (λ e. tokens-over at t (several (expr_at n s) (at + width_of t) (arguments_of t)) e (tokens-several (expr_at n s) (tokens-found n s) (at + width_of t) (arguments_of t)))
-    (λ e. tt)
+use Rattle.tokens.specs.declared.Token.TheVariants.{Parameter, Bound, Name, InstanceOperator, BuiltIn, Literal}
 
 -- The scene shows a state: a definition's form gives what its card says, a declaration's what the declared name has.
 pub record Shows (S : Scene) (decls : Declarations) (s : State) : Type 0 where
@@ -124,34 +80,33 @@ module _ (refs : List ℕ) (decls : Declarations) (S : Scene) (s : State) (good 
   count_map ⟨⟩ = refl
   count_map (t ▹ ts) = ap suc (count_map ts)
 
-  token-says : (k : Token) (at m depth : ℕ) → is_token k ≡ true → (is_name k ≡ true → get_or refs at 0 < max_definitions + length decls)
+  token-says : (k : Token) (at m depth : ℕ) → (is_name k ≡ true → get_or refs at 0 < max_definitions + length decls)
       → Fits ar n depth (token_head refs decls at k) m → TokenSays refs decls S 0 n v size levels-v declared_level (card_level s) (cards-keep s good) ar at k m
-  token-says (Parameter i) at m depth t b f = tt
-  token-says (Bound j) at m depth t b f = tt
-  token-says (Name x k) at m depth t b f = λ us e a. name-says (get_or refs at 0) m (b refl) (any-depth (get_or refs at 0) m depth f) us e a
-  token-says (InstanceOperator i x k) at m depth t b f = λ us e a. name-says (get_or refs at 0) m (b refl) (any-depth (get_or refs at 0) m depth f) us e a
-  token-says (BuiltIn c) at m depth t b f = tt
-  token-says (Literal x) at m depth t b f = tt
-  token-says NoToken at m depth t b f = absurd (let z : ◌≡◌ {A = ℕ} 0 1 = cc in omega arith)
+  token-says (Parameter i) at m depth b f = tt
+  token-says (Bound j) at m depth b f = tt
+  token-says (Name x k) at m depth b f = λ us e a. name-says (get_or refs at 0) m (b refl) (any-depth (get_or refs at 0) m depth f) us e a
+  token-says (InstanceOperator i x k) at m depth b f = λ us e a. name-says (get_or refs at 0) m (b refl) (any-depth (get_or refs at 0) m depth f) us e a
+  token-says (BuiltIn c) at m depth b f = tt
+  token-says (Literal x) at m depth b f = tt
 
   mutual
-    all_say : (t : Expr) (k : ℕ) → Tokens t → RefsBelow (max_definitions + length decls) refs t → Every (Fits ar n) k (shown refs decls t)
+    all_say : (t : Expr) (k : ℕ) → RefsBelow (max_definitions + length decls) refs t → Every (Fits ar n) k (shown refs decls t)
         → AllSay refs decls S 0 n v size levels-v declared_level (card_level s) (cards-keep s good) ar t
-    all_say (node h ts) k t b f = (
-      token-says h.token h.at (count ts) k t.0 b.0 (subst (Fits ar n k (token_head refs decls h.at h.token)) (count_map ts) f.0),
-      alls-say ts k (binds_in (binder (token_head refs decls h.at h.token))) t.1 b.1 f.1,
+    all_say (node h ts) k b f = (
+      token-says h.token h.at (count ts) k b.0 (subst (Fits ar n k (token_head refs decls h.at h.token)) (count_map ts) f.0),
+      alls-say ts k (binds_in (binder (token_head refs decls h.at h.token))) b.1 f.1,
     )
 
-    alls-say : (ts : Exprs) (k : ℕ) (c : ℕ → ℕ) → TokensAll ts → AllRefsBelow (max_definitions + length decls) refs ts
+    alls-say : (ts : Exprs) (k : ℕ) (c : ℕ → ℕ) → AllRefsBelow (max_definitions + length decls) refs ts
         → Everys (Fits ar n) k c (map_trees (λ (h : Placed). token_head refs decls h.at h.token) ts)
         → AllsSay refs decls S 0 n v size levels-v declared_level (card_level s) (cards-keep s good) ar ts
-    alls-say ⟨⟩ k c t b f = tt
-    alls-say (u ▹ ts) k c t b f = (all_say u (c 0 + k) t.0 b.0 f.0, alls-say ts k (λ i. c (suc i)) t.1 b.1 f.1)
+    alls-say ⟨⟩ k c b f = tt
+    alls-say (u ▹ ts) k c b f = (all_say u (c 0 + k) b.0 f.0, alls-say ts k (λ i. c (suc i)) b.1 f.1)
 
   -- The text's level by the tables is its term's level by the cards.
-  pub own-level : (t : Expr) (u : Term) → Tokens t → RefsBelow (max_definitions + length decls) refs t → shown refs decls t ≡ u → WellFormed ar n 0 u
+  pub own-level : (t : Expr) (u : Term) → RefsBelow (max_definitions + length decls) refs t → shown refs decls t ≡ u → WellFormed ar n 0 u
       → fold (levels refs S 0 v) 0 t ≡ level_of s v u
-  own-level t u tokens below e formed =
+  own-level t u below e formed =
       let w = subst (Every (Fits ar n) 0) (sym e) formed in
-      level-shown refs decls S 0 n v size levels-v declared_level (card_level s) (cards-keep s good) ar t 0 [] tt (λ j l. absurd (omega arith)) (all_say t 0 tokens below w) w
+      level-shown refs decls S 0 n v size levels-v declared_level (card_level s) (cards-keep s good) ar t 0 [] tt (λ j l. absurd (omega arith)) (all_say t 0 below w) w
       ∙ ap (eval (by_cards (card_level s)) v []) e

@@ -11,7 +11,7 @@ use Rattle.symbols.specs.Spell.{shape_of, spell}
 use Rattle.theory.specs.Term.{kind_arity}
 use Rattle.rules.specs.State.{State, params_of}
 use Rattle.texts.specs.Text.{Declarations, no_declaration}
-use Rattle.store.specs.Store.{Store}
+use Rattle.store.specs.declared.Store.{Store}
 use Rattle.context.specs.declared.Counts.{Counts}
 use Rattle.worlds.specs.Rows.{Row, world_of}
 use Rattle.worlds.specs.World.{World}

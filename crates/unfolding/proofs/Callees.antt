@@ -13,15 +13,15 @@ use Rattle.theory.specs.Term.{Kind, Reading, Term, kind_arity}
 use Rattle.rules.specs.State.{State, params_of}
 use Rattle.tokens.specs.Expr.{Found}
 use Rattle.texts.specs.Text.{Declarations, no_declaration}
-use Rattle.store.specs.Store.{Store, first_at}
+use Rattle.store.specs.Store.{first_at}
+use Rattle.store.specs.declared.Store.{Store}
 use Rattle.context.specs.declared.Counts.{Counts}
 use Rattle.worlds.proofs.Uses.{uses-more}
 use Rattle.worlds.specs.Rows.{Row, world_of}
 use Rattle.worlds.specs.World.{World}
 use Rattle.entering.specs.Written.{written_at}
 use Rattle.entering.specs.declared.substitutes.Site.{Site}
-use Rattle.entering.specs.declared.written.Writing.{Writing}
-use Rattle.entering.specs.declared.written.Writing.TheVariants.{Unwritten, Written}
+use Rattle.std.specs.Prelude.{Option as Answer, Some, None}
 use Rattle.chains.specs.Ready.{Ready}
 use Rattle.chains.specs.Walk.{code_at, outer_after, site_of}
 use Rattle.chains.proofs.Knowing.{NamedIn}
@@ -136,12 +136,12 @@ module _ (file refs : List ℕ) (v : Store) (declared : List ℕ) (n D : ℕ) (c
         standin-unfolds file refs v declared n D c s rs decls end ready there room l (get_or currents l 0) (get_or outers l 0) (row_of numbers l)
         (e.each l (omega arith)) (e.on l on) M i named
 
-    by-term : {A : Type 0} (M : Reading A) (y : Writing)
+    by-term : {A : Type 0} (M : Reading A) (y : Answer ℕ)
         → UnfoldsBy M file refs v s decls W D number params l (get_or outers l 0) (row_of numbers l) end site.owner site.params kind (get_or decls i no_declaration).1 y
         → Unfolds M s decls W D number params l (written_term file refs v decls (place_in numbers outers l) site kind (get_or decls i no_declaration).1 y)
-    by-term M (Written at) u =
+    by-term M (Some at) u =
         subst (λ (f : Found). Unfolds M s decls W D number params l (found_term (by_refs refs) decls (place_in numbers outers l) f)) (sym u.stands) u.unfolds
-    by-term M Unwritten u = u.unfolds
+    by-term M None u = u.unfolds
 
     pub standin-term : {A : Type 0} (M : Reading A)
         → Unfolds M s decls (world_of rs D) D (stand_in (suc l) (max_definitions + i))

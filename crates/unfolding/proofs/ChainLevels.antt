@@ -16,7 +16,9 @@ use Rattle.rules.specs.State.{State, meanings, templates_of}
 use Rattle.laws.proofs.Sound.{all-formed}
 use Rattle.texts.specs.Text.{Declarations}
 use Rattle.context.specs.Entries.{field_code, instance_kind, order_of}
-use Rattle.store.specs.Store.{Store, first_at, kind_at, link_at, source_at}
+use Rattle.store.specs.Store.{first_at, kind_at, link_at, source_at}
+use Rattle.store.specs.declared.Store.{Store}
+use Rattle.store.specs.declared.Facts.{Facts}
 use Rattle.context.specs.declared.Counts.{Counts}
 use Rattle.worlds.proofs.File.{world-params}
 use Rattle.worlds.proofs.InWorld.{Comes, LinkOk}
@@ -54,7 +56,7 @@ module _ (ds : List Definition) (lawful : AllFormed [] ds) (bs : List Run) (disj
       ∙ ap {B = Option ℕ} some (omega arith)
 
 -- a step that fits, by its parts
-fits : (facts : List ℕ) (outer cur : ℕ) → 0 < link_at facts cur → source_at facts cur < cur → link_fits facts outer (code_at facts cur) ≡ true
+fits : (facts : List Facts) (outer cur : ℕ) → 0 < link_at facts cur → source_at facts cur < cur → link_fits facts outer (code_at facts cur) ≡ true
     → step_fits facts outer cur ≡ true
 unfolding step_fits
 fits facts outer cur l h e =

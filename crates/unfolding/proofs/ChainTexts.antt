@@ -6,7 +6,7 @@ use mathlib.Core.Path.{◌∙◌, ◌≡◌, ap, refl, subst, sym}
 use lib.ListN.{get_or, length, length-append, take-append-drop}
 use native.Mathlib.Omega.{arith}
 use Prim.Native.Nat.{◌+◌, ◌*◌, ◌<◌, ◌≤◌, suc, ℕ}
-use Rattle.limits.specs.Limits.{max_arity, max_declarations, max_definitions, max_nesting}
+use Rattle.limits.specs.Limits.{max_arity, max_declarations, max_definitions}
 use Rattle.theory.proofs.Fusion.{Anything, anywhere}
 use Rattle.theory.proofs.Later.{every-weaken}
 use Rattle.theory.specs.Expand.{arities_of, itself, params_from, templates}
@@ -16,10 +16,10 @@ use Rattle.theory.proofs.Substitution.{count-params}
 use Rattle.theory.specs.Tree.{count}
 use Rattle.rules.specs.State.{State, definition_at, meanings, params_of, templates_of}
 use Rattle.laws.proofs.Invariant.{arity-known}
-use Rattle.tokens.specs.Expr.{Expr, expr_at, found}
+use Rattle.tokens.specs.Expr.{Expr}
 use Rattle.texts.specs.Text.{Declarations, no_declaration, ref_head, shown}
-use Rattle.text_levels.proofs.OwnWorld.{Tokens, tokens-found}
-use Rattle.store.specs.Store.{Store, first_at}
+use Rattle.store.specs.Store.{first_at}
+use Rattle.store.specs.declared.Store.{Store}
 use Rattle.context.specs.declared.Counts.{Counts}
 use Rattle.worlds.proofs.File.{MeansBelow, definition-in-world, is-text, substitutes-use-below, text-uses-below, world-params}
 use Rattle.worlds.proofs.Settled.{Settled, settled}
@@ -31,8 +31,7 @@ use Rattle.entering.specs.Numbering.{ShowsNumbers}
 use Rattle.entering.specs.Shows.{Resolved, TextNames}
 use Rattle.entering.specs.Written.{written_at}
 use Rattle.entering.specs.declared.substitutes.Site.{Site}
-use Rattle.entering.specs.declared.written.Writing.{Writing}
-use Rattle.entering.specs.declared.written.Writing.TheVariants.{Unwritten, Written}
+use Rattle.std.specs.Prelude.{Option as Answer, Some, None}
 use Rattle.standing.specs.Chained.{Own, Through}
 use Rattle.standing.specs.Shown.{StandsFor, TextShown}
 use Rattle.chains.specs.Ready.{Ready}
@@ -67,9 +66,6 @@ uses-both P Q t a b =
 below-link : (D : ℕ) (u : World) (l : Link) (w : World) → SubstitutesBelow D (u ++ (l ∷ w)) → (k : Kind) (x : ℕ) → Uses (λ h. number_in w h < D) (l.substitutes k x)
 below-link D [] l w h = h.0
 below-link D (j ∷ u) l w h = below-link D u l w h.1
-
-found-tokens : (file : List ℕ) (at e : ℕ) (t : Expr) → expr_at max_nesting file at ≡ found t e → Tokens t
-found-tokens file at e t q = let h = tokens-found max_nesting file at in rw q at h
 
 all-anything : {A : Type 0} (us : List A) → All (Anything {A = A}) us
 all-anything [] = tt
@@ -176,7 +172,7 @@ module _ (file refs : List ℕ) (v : Store) (declared : List ℕ) (n D : ℕ) (c
     shown-names : (at : ℕ) (u : Term) (x : TextShown file refs decls end at u) → Names (Declared AnyName w) u → Uses (Below w) u
         → TextNames (NamedIn decls w) (Below w) refs x.text
     shown-names at u x a b =
-        text-names refs decls (Declared AnyName w) (Below w) x.text (found-tokens file at x.next x.text x.stands) x.below
+        text-names refs decls (Declared AnyName w) (Below w) x.text x.below
         (subst (Names (Declared AnyName w)) (sym x.same) a) (subst (Uses (Below w)) (sym x.same) b)
 
     -- At the original: the text of definition D.
@@ -310,12 +306,12 @@ module _ (file refs : List ℕ) (v : Store) (declared : List ℕ) (n D : ℕ) (c
         spot-size : outer + m ≡ outer_after v.facts outer cur + kind_arity kind
         spot-size = omega (arith, outer-there file refs v declared n D c s rs decls end ready there l cur outer numbers here t, here.around)
 
-        abbrev By : ℕ → ℕ → ℕ → Writing → Type 0
+        abbrev By : ℕ → ℕ → ℕ → Answer ℕ → Type 0
         By n owner p y =
             UnfoldsBy M file refs v s decls (world_of rs D) D n (outer_after v.facts outer cur + kind_arity kind) l outer numbers end owner p kind x y
 
-        by-writing : (owner : ℕ) (y : Writing) → StandsFor v file refs decls end owner k.params kind x u y → By call owner k.params y
-        by-writing owner (Written at) a =
+        by-writing : (owner : ℕ) (y : Answer ℕ) → StandsFor v file refs decls end owner k.params kind x u y → By call owner k.params y
+        by-writing owner (Some at) a =
             record {
               text = a.text;
               next = a.next;
@@ -328,7 +324,7 @@ module _ (file refs : List ℕ) (v : Store) (declared : List ℕ) (n D : ℕ) (c
                   (text-unfolds M call m a.text (shown-names at u a spot.names spot-uses) (subst (WellFormed ar m 0) (sym a.same) spot.formed) spot-arity spot-few
                   (λ us q. spot-means us ∙ ap (λ (y : Term). eval_at (in_world M (meaning_of M s) w) (params_in w) y us) (sym a.same)));
             }
-        by-writing owner Unwritten a =
+        by-writing owner None a =
             let r : ℕ = implied_ref v.names v.facts v.contexts v.heads owner x in
             let f = subst (WellFormed ar m 0) (sym a.same) spot.formed in
             let b = subst (Names (Declared AnyName w)) (sym a.same) spot.names in

@@ -6,7 +6,7 @@ use Rattle.limits.specs.Limits.{max_arity, max_declarations}
 use Rattle.theory.proofs.Lists.{at_all}
 use Rattle.rules.specs.Field.{Field}
 use Rattle.rules.specs.State.{State, no_definition}
-use Rattle.store.specs.Store.{Store}
+use Rattle.store.specs.declared.Store.{Store}
 use Rattle.context.specs.declared.Counts.{Counts}
 use Rattle.judge_plain.specs.declared.Phase.{Phase}
 use Rattle.resolve.proofs.Numbers.{declarations_of}

@@ -13,7 +13,7 @@ use Rattle.theory.proofs.Bytes.{bytes}
 use Rattle.theory.specs.Term.{Arities, Term, WellFormed, kind_arity}
 use Rattle.rules.specs.State.{State, params_of}
 use Rattle.texts.specs.Text.{Declarations, no_declaration}
-use Rattle.store.specs.Store.{Store}
+use Rattle.store.specs.declared.Store.{Store}
 use Rattle.context.specs.declared.Counts.{Counts}
 use Rattle.worlds.proofs.Uses.{restrict, restricted, restricted-some, uses-more}
 use Rattle.worlds.specs.Rows.{Row, world_of}

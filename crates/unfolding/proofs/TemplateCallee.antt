@@ -16,7 +16,7 @@ use Rattle.theory.specs.Lists.{any}
 use Rattle.theory.specs.Term.{Head, Term, bound, builtin, declared, defined, leaf, param}
 use Rattle.rules.specs.State.{State, params_of}
 use Rattle.texts.specs.Text.{Declarations}
-use Rattle.store.specs.Store.{Store}
+use Rattle.store.specs.declared.Store.{Store}
 use Rattle.context.specs.declared.Counts.{Counts}
 use Rattle.worlds.proofs.Uses.{every-both, uses-more}
 use Rattle.worlds.specs.Rows.{Row, world_of}

@@ -19,7 +19,7 @@ use Rattle.theory.specs.Term.{Kind, Term, constant, kind_arity, variable}
 use Rattle.rules.specs.State.{State, params_of, templates_of}
 use Rattle.laws.proofs.Formats.{some-injective}
 use Rattle.texts.specs.Text.{Declarations, no_declaration}
-use Rattle.store.specs.Store.{Store}
+use Rattle.store.specs.declared.Store.{Store}
 use Rattle.context.specs.declared.Counts.{Counts}
 use Rattle.worlds.proofs.File.{world-params}
 use Rattle.worlds.proofs.Uses.{uses-more}

@@ -18,7 +18,7 @@ use Rattle.theory.specs.Term.{Arities, Every, Everys, Fits, Head, Kind, Term, Te
 use Rattle.theory.specs.Tree.{◌▹◌, count, join, map_trees, node, ⟨⟩}
 use Rattle.tokens.specs.Expr.{Expr, Exprs, Placed}
 use Rattle.tokens.specs.declared.Token.{Token}
-use Rattle.tokens.specs.declared.Token.TheVariants.{BuiltIn, Bound, InstanceOperator, Literal, Name, NoToken, Parameter}
+use Rattle.tokens.specs.declared.Token.TheVariants.{BuiltIn, Bound, InstanceOperator, Literal, Name, Parameter}
 use Rattle.texts.specs.Text.{Declarations, no_declaration, ref_head, shown, token_head}
 use Rattle.worlds.specs.World.{AnyName, HeadMentions, Uses, World, number_in, params_in}
 use Rattle.entering.specs.Numbering.{ShowsNumbers}
@@ -111,7 +111,6 @@ module _ (refs : List ℕ) (decls : Declarations) (N F : ℕ → Type 0) (w : Wo
     token-fits (InstanceOperator i x j) at k ts m h f q a = named-fits (get_or refs at 0) h k m ts f q (plain-ref (get_or refs at 0) k ts a)
     token-fits (BuiltIn c) at k ts m h f q a = ((f ∙ ap {B = Option ℕ} some (sym q), tt), a)
     token-fits (Literal v) at k ts m h f q a = ((q ∙ f, tt), a)
-    token-fits NoToken at k ts m h f q a = absurd h
 
     mutual
       term_fits : (t : Expr) (k : ℕ) → TextNames N F refs t → Every (Fits ar n) k (shown refs decls t) → Every Q k (term_in (by_refs refs) decls P t)
@@ -170,7 +169,6 @@ module _ (refs : List ℕ) (decls : Declarations) (N F : ℕ → Type 0) (number
   token-shown (InstanceOperator i x k) at ts h = named-shown (get_or refs at 0) h ts
   token-shown (BuiltIn c) at ts h = refl
   token-shown (Literal v) at ts h = refl
-  token-shown NoToken at ts h = absurd h
 
   mutual
     pub text-shown : (t : Expr) → TextNames N F refs t → term_in (by_refs refs) decls (place_at 0 0 numbers) t ≡ shown refs decls t

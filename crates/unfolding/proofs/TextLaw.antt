@@ -17,7 +17,7 @@ use Rattle.theory.proofs.Values.{values}
 use Rattle.theory.specs.Tree.{◌▹◌, join, map_trees, node, ⟨⟩}
 use Rattle.tokens.specs.Expr.{Expr, Exprs, Placed}
 use Rattle.tokens.specs.declared.Token.{Token}
-use Rattle.tokens.specs.declared.Token.TheVariants.{BuiltIn, Bound, InstanceOperator, Literal, Name, NoToken, Parameter}
+use Rattle.tokens.specs.declared.Token.TheVariants.{BuiltIn, Bound, InstanceOperator, Literal, Name, Parameter}
 use Rattle.texts.specs.Text.{Declarations, no_declaration, ref_head, shown, token_head}
 use Rattle.worlds.specs.World.{World, eval_at, in_world, number_in, params_in, read_declared}
 use Rattle.entering.specs.Numbering.{ShowsNumbers}
@@ -108,7 +108,6 @@ module _ (refs : List ℕ) (decls : Declarations) (N F : ℕ → Type 0) (w : Wo
     token-means (InstanceOperator i x k) at β ts ts' n same = named-means (get_or refs at 0) n β ts ts' (same M.unknown (binds_in plain))
     token-means (BuiltIn c) at β ts ts' n same = ap (M.on_builtin c) (fun_ext λ v. same v _)
     token-means (Literal v) at β ts ts' n same = refl
-    token-means NoToken at β ts ts' n same = absurd n
 
     mutual
       term-means : (t : Expr) (β : List A) → TextNames N F refs t → eval R us β (term_in (by_refs refs) decls P t) ≡ eval R' post β (shown refs decls t)

@@ -8,7 +8,7 @@ use Rattle.theory.specs.Term.{Term, Terms, bound, builtin, declared, defined, le
 use Rattle.theory.specs.Tree.{◌▹◌, join, node, ⟨⟩}
 use Rattle.tokens.specs.Expr.{Expr, Exprs, Placed}
 use Rattle.tokens.specs.declared.Token.{Token}
-use Rattle.tokens.specs.declared.Token.TheVariants.{BuiltIn, Bound, InstanceOperator, Literal, Name, NoToken, Parameter}
+use Rattle.tokens.specs.declared.Token.TheVariants.{BuiltIn, Bound, InstanceOperator, Literal, Name, Parameter}
 use Rattle.texts.specs.Text.{Declarations, no_declaration}
 
 -- the number that calls what stands for declaration e, r being 256 + e
@@ -43,7 +43,6 @@ token_in look decls P at (Name n k) ts = named_in decls P (look at (Name n k)) t
 token_in look decls P at (InstanceOperator i n k) ts = named_in decls P (look at (InstanceOperator i n k)) ts
 token_in look decls P at (BuiltIn c) ts = node (builtin c) ts
 token_in look decls P at (Literal v) ts = node (leaf (literal v)) ts
-token_in look decls P at NoToken ts = node (leaf (literal 0)) ts
 
 abbrev mutual
   pub term_in : (ℕ → Token → ℕ) → Declarations → Setting → Expr → Term

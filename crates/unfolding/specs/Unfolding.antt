@@ -7,11 +7,10 @@ use Rattle.tokens.specs.Expr.{Expr, expr_at, found}
 use Rattle.tokens.specs.Limit.{counts_kept}
 use Rattle.texts.specs.Text.{Declarations}
 use Rattle.text_levels.proofs.OwnWorld.{RefsBelow}
-use Rattle.store.specs.Store.{Store}
+use Rattle.store.specs.declared.Store.{Store}
 use Rattle.worlds.specs.World.{World}
 use Rattle.entering.specs.Implied.{implied_ref}
-use Rattle.entering.specs.declared.written.Writing.{Writing}
-use Rattle.entering.specs.declared.written.Writing.TheVariants.{Unwritten, Written}
+use Rattle.std.specs.Prelude.{Option as Answer, Some, None}
 use Rattle.unfolding.specs.InWorld.{by_refs, implied_in, term_in}
 use Rattle.unfolding.specs.StandIn.{Unfolds, place_at}
 
@@ -32,6 +31,6 @@ pub record UnfoldsImplied {A : Type 0} (M : Reading A) (v : Store) (s : State) (
       (implied_in decls (place_at l outer numbers) p (kind_arity k) (implied_ref v.names v.facts v.contexts v.heads owner x))
 
 -- what stands for the name x is written, or implied
-abbrev pub UnfoldsBy : {A : Type 0} → Reading A → List ℕ → List ℕ → Store → State → Declarations → World → ℕ → ℕ → ℕ → ℕ → ℕ → List ℕ → ℕ → ℕ → ℕ → Kind → ℕ → Writing → Type 0
-UnfoldsBy M file refs v s decls w D n m l outer numbers end owner p k x (Written at) = UnfoldsText M file refs s decls w D n m l outer numbers end at
-UnfoldsBy M file refs v s decls w D n m l outer numbers end owner p k x Unwritten = UnfoldsImplied M v s decls w D n m l outer numbers owner p k x
+abbrev pub UnfoldsBy : {A : Type 0} → Reading A → List ℕ → List ℕ → Store → State → Declarations → World → ℕ → ℕ → ℕ → ℕ → ℕ → List ℕ → ℕ → ℕ → ℕ → Kind → ℕ → Answer ℕ → Type 0
+UnfoldsBy M file refs v s decls w D n m l outer numbers end owner p k x (Some at) = UnfoldsText M file refs s decls w D n m l outer numbers end at
+UnfoldsBy M file refs v s decls w D n m l outer numbers end owner p k x None = UnfoldsImplied M v s decls w D n m l outer numbers owner p k x

@@ -3,27 +3,22 @@
 
 ghost use Rattle.std.specs.Prelude.{◌≡◌};
 ghost use Rattle.demands.specs.Packed.{unpacked, unpacked_span, unpacked_truth};
-ghost use Rattle.unpacking.specs.Outcomes.{number_outcome, span_outcome, truth_outcome};
+ghost use Rattle.unpacking.specs.Outcomes.{outcome_of};
 
-// A number of definitions, a level or a length; or a refusal's number and place.
+use std::fmt;
+
+// A refusal's number and place, as wide as they are read off.
 #[derive(Clone, Copy)]
-pub enum Number {
-    Result(u32),
-    Refused(u32, u32),
+pub struct Refusal<N> {
+    pub cause: N,
+    pub place: N,
 }
 
-// Whether two definitions are alike; or a refusal's number and place.
-#[derive(Clone, Copy)]
-pub enum Truth {
-    Result(bool),
-    Refused(u32, u32),
-}
-
-// The start of a part of the file and its length; or a refusal's number and place.
-#[derive(Clone, Copy)]
-pub enum Span {
-    Result(u64, u64),
-    Refused(u64, u64),
+// As the programs that call the archive print it.
+impl<N: fmt::Display> fmt::Display for Refusal<N> {
+    fn fmt<W: fmt::Write>(&self, f: &mut fmt::Formatter<W>) -> fmt::Result {
+        write!(f, "refused {} {}", self.cause, self.place)
+    }
 }
 
 #[derive(Drop)]
@@ -40,35 +35,36 @@ impl Bits {
     const WIDE_PLACES: u64 = 65536;
 }
 
-// The reply of a check, a level query or an expansion.
-pub fn unpack(reply: u32) -> Number
-    ensures { number_outcome result ≡ unpacked reply }
+// The reply of a check, a level query or an expansion: a number of definitions, a level or a length.
+pub fn unpack(reply: u32) -> Result<u32, Refusal<u32>>
+    ensures { outcome_of result ≡ unpacked reply }
 {
     if reply < Bits::REFUSAL {
-        return Number::Result(reply);
+        return Ok(reply);
     }
-    Number::Refused((reply - Bits::REFUSAL) / Bits::PLACES, reply % Bits::PLACES)
+    Err(Refusal {
+        cause: (reply - Bits::REFUSAL) / Bits::PLACES,
+        place: reply % Bits::PLACES,
+    })
 }
 
 // The reply to whether two definitions are alike.
-pub fn unpack_truth(reply: u32) -> Truth
-    ensures { truth_outcome result ≡ unpacked_truth reply }
+pub fn unpack_truth(reply: u32) -> Result<bool, Refusal<u32>>
+    ensures { outcome_of result ≡ unpacked_truth reply }
 {
-    if reply < Bits::REFUSAL {
-        return Truth::Result(reply == 1);
-    }
-    Truth::Refused((reply - Bits::REFUSAL) / Bits::PLACES, reply % Bits::PLACES)
+    let number = unpack(reply)?;
+    Ok(number == 1)
 }
 
-// The reply to where a body stands.
-pub fn unpack_span(reply: u64) -> Span
-    ensures { span_outcome result ≡ unpacked_span reply }
+// The reply to where a body stands: the start of a part of the file and its length.
+pub fn unpack_span(reply: u64) -> Result<(u64, u64), Refusal<u64>>
+    ensures { outcome_of result ≡ unpacked_span reply }
 {
     if reply < Bits::WIDE_REFUSAL {
-        return Span::Result(reply / Bits::WIDE_PLACES, reply % Bits::WIDE_PLACES);
+        return Ok((reply / Bits::WIDE_PLACES, reply % Bits::WIDE_PLACES));
     }
-    Span::Refused(
-        (reply - Bits::WIDE_REFUSAL) / Bits::WIDE_PLACES,
-        reply % Bits::WIDE_PLACES,
-    )
+    Err(Refusal {
+        cause: (reply - Bits::WIDE_REFUSAL) / Bits::WIDE_PLACES,
+        place: reply % Bits::WIDE_PLACES,
+    })
 }

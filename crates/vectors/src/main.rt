@@ -2,30 +2,12 @@
 // that many bytes. Ends where the input does, or at a length that is more than one over the limit of a file.
 #![tactic(auto)]
 
-ghost use Rattle.std.specs.Prelude.{◌≤◌};
-
 use lines::Room;
 use list_file::Input;
 use list_input::print_listing;
-use reading::read_full;
+use records::read_part;
 use std::io;
 use std::io::{Read, Write};
-
-fn wide(x: u8) -> usize
-    ensures { result ≤ 255 }
-{
-    x as usize
-}
-
-// The length that comes next, or one that no file may have where the input ends.
-fn next_length(from: &mut impl Read) -> io::Result<usize> {
-    let mut head = [0u8; 3];
-    let got = read_full(from, &mut head)?;
-    if got < 3 {
-        return Ok(65536);
-    }
-    Ok(65536 * wide(head[0]) + 256 * wide(head[1]) + wide(head[2]))
-}
 
 // Reads one file and prints its listing; whether there was one.
 fn list_next(
@@ -34,16 +16,10 @@ fn list_next(
     space: &mut [u8],
     text: &mut [u8; Room::TEXT],
 ) -> io::Result<bool> {
-    let size = next_length(from)?;
-    if space.len() < size {
+    let Some(size) = read_part(from, space)? else {
         return Ok(false);
-    }
-    let file = &mut space[..size];
-    let got = read_full(from, file)?;
-    if got < size {
-        return Ok(false);
-    }
-    print_listing(file, text, to)?;
+    };
+    print_listing(&space[..size], text, to)?;
     Ok(true)
 }
 

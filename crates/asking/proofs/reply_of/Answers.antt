@@ -5,8 +5,8 @@ use Rattle.asking.proofs.reply_of.Goals as goal
 pub returns-then-w-expr : goal.returns-then-w-expr
 returns-then-w-expr c = search reply-kept
 
-pub returns-then-w : goal.returns-then-w
-returns-then-w c = search reply-left-over
-
 pub returns : goal.returns
-returns c = search reply-limit
+returns c = search reply-left-over
+
+pub returns-in_default : goal.returns-in_default
+returns-in_default c = search reply-limit

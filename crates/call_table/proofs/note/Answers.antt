@@ -8,8 +8,5 @@ put_word-requires c = (search (rules, first-inside), search rules)
 pub returns-then-rank-l : goal.returns-then-rank-l
 returns-then-rank-l c = search (rules, notes-one)
 
-pub returns-else-rank-l : goal.returns-else-rank-l
-returns-else-rank-l c = search (rules, notes-full)
-
-pub returns-else-call : goal.returns-else-call
-returns-else-call c = search (rules, notes-none)
+pub returns : goal.returns
+returns c = search (rules, notes-full, notes-none)

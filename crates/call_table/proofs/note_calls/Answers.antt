@@ -1,4 +1,3 @@
-use Prim.Native.Nat.{◌-◌}
 use Rattle.call_table.proofs.Noting.{noting-all, noting-end, noting-few, noting-on, noting-start, sized_same}
 use borrow.Author.Rules.{rules}
 use Rattle.call_table.proofs.note_calls.Goals as goal

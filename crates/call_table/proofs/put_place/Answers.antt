@@ -6,9 +6,6 @@ use Rattle.call_table.proofs.put_place.Goals as goal
 pub returns-then-long-e : goal.returns-then-long-e
 returns-then-long-e c = search (rules, placed-failed)
 
-pub returns-then-known-e : goal.returns-then-known-e
-returns-then-known-e c = search (rules, placed-failed)
-
 pub put_word-requires : goal.put_word-requires
 put_word-requires c = (search (rules, end-inside), search rules)
 

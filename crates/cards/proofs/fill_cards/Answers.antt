@@ -1,5 +1,4 @@
 use mathlib.Core.Path.{refl}
-use Prim.Native.Nat.{◌-◌}
 use Rattle.cards.proofs.Cards.{card-turn, cards-done}
 use borrow.Author.Rules.{rules}
 use Rattle.cards.proofs.fill_cards.Goals as goal

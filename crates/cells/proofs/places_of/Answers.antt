@@ -1,5 +1,5 @@
-use Prim.Native.Nat.{◌-◌}
-use Rattle.cells.proofs.Cells.{counted-all, counted-few, counted_none, counted-turn, counted-zero}
+use native.Mathlib.Omega.{arith}
+use Rattle.cells.proofs.Cells.{counted-end, counted-few, counted_none, counted-turn, counted-zero}
 use Rattle.cells.proofs.places_of.Goals as goal
 
 pub loop-k-init : goal.loop-k-init
@@ -12,4 +12,4 @@ pub loop-k-preserved : goal.loop-k-preserved
 loop-k-preserved c = search counted-turn
 
 pub returns : goal.returns
-returns c = (search counted-all, search counted-few)
+returns c = (search counted-end, search arith)

@@ -5,8 +5,8 @@ use Rattle.checker.proofs.settle.Goals as goal
 pub fill_cards-requires : goal.fill_cards-requires
 fill_cards-requires c = (search few-in, search rules)
 
-pub returns-in-Accepted : goal.returns-in-Accepted
-returns-in-Accepted c = search filled_in
+pub returns-in-Ok : goal.returns-in-Ok
+returns-in-Ok c = search filled_in
 
-pub returns-in-Refused : goal.returns-in-Refused
-returns-in-Refused c = search cleared-in
+pub returns-in-Err : goal.returns-in-Err
+returns-in-Err c = search cleared-in

@@ -10,4 +10,4 @@ pub returns-then-file-gt-FILE_BYTES : goal.returns-then-file-gt-FILE_BYTES
 returns-then-file-gt-FILE_BYTES c = front-as _ _ _ _ _ c.write_refusal-then-file-gt-FILE_BYTES.ensures (long-listed c.args.file.now c.if-file-gt-FILE_BYTES.true)
 
 pub list_fields-requires : goal.list_fields-requires
-list_fields-requires c = (search rules, search some_bytes, search rules, λ i. (c.shared_slice_known-1.given i).fits)
+list_fields-requires c = (search some_bytes, search rules, λ i. (c.shared_slice_known-1.given i).fits)

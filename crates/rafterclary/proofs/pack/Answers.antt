@@ -1,14 +1,14 @@
-use Rattle.rafterclary.proofs.Packing.{few-result, near-refusal, refusal-packed, result-packed}
+use Rattle.rafterclary.proofs.Packing.{kept, near, refusal-packed, result-packed}
 use Rattle.rafterclary.proofs.pack.Goals as goal
 
-pub pack_result-requires : goal.pack_result-requires
-pack_result-requires c = search few-result
+pub pack_number-requires : goal.pack_number-requires
+pack_number-requires c = kept _ _ c.requires _ c.in-Ok.is
 
 pub pack_refusal-requires : goal.pack_refusal-requires
-pack_refusal-requires c = search near-refusal
+pack_refusal-requires c = near _ _ c.requires _ c.in-Err.is
 
-pub returns-in-Accepted : goal.returns-in-Accepted
-returns-in-Accepted c = search result-packed
+pub returns-in-Ok : goal.returns-in-Ok
+returns-in-Ok c = search result-packed
 
-pub returns-in-Refused : goal.returns-in-Refused
-returns-in-Refused c = search refusal-packed
+pub returns-in-Err : goal.returns-in-Err
+returns-in-Err c = search refusal-packed

@@ -1,14 +1,14 @@
-use Rattle.rafterclary.proofs.Packing.{body-refusal, body-result, inside-file, near-body}
+use Rattle.rafterclary.proofs.Packing.{body-refusal, body-result, kept, near}
 use Rattle.rafterclary.proofs.pack_body.Goals as goal
 
 pub pack_span-requires : goal.pack_span-requires
-pack_span-requires c = search inside-file
+pack_span-requires c = kept _ _ c.requires _ c.in-Ok.is
 
 pub pack_wide_refusal-requires : goal.pack_wide_refusal-requires
-pack_wide_refusal-requires c = search near-body
+pack_wide_refusal-requires c = near _ _ c.requires _ c.in-Err.is
 
-pub returns-in-Body : goal.returns-in-Body
-returns-in-Body c = search body-result
+pub returns-in-Ok : goal.returns-in-Ok
+returns-in-Ok c = search body-result
 
-pub returns-in-Refused : goal.returns-in-Refused
-returns-in-Refused c = search body-refusal
+pub returns-in-Err : goal.returns-in-Err
+returns-in-Err c = search body-refusal

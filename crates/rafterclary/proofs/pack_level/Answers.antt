@@ -1,11 +1,11 @@
-use Rattle.rafterclary.proofs.Packing.{level-refusal, level-result, near-level}
+use Rattle.rafterclary.proofs.Packing.{near, refusal-packed, result-packed}
 use Rattle.rafterclary.proofs.pack_level.Goals as goal
 
 pub pack_refusal-requires : goal.pack_refusal-requires
-pack_refusal-requires c = search near-level
+pack_refusal-requires c = near _ _ c.requires _ c.in-Err.is
 
-pub returns-in-Level : goal.returns-in-Level
-returns-in-Level c = search level-result
+pub returns-in-Ok : goal.returns-in-Ok
+returns-in-Ok c = search result-packed
 
-pub returns-in-Refused : goal.returns-in-Refused
-returns-in-Refused c = search level-refusal
+pub returns-in-Err : goal.returns-in-Err
+returns-in-Err c = search refusal-packed

@@ -3,10 +3,7 @@ use borrow.Author.Rules.{rules}
 use Rattle.rewriting.proofs.end_at.Goals as goal
 
 pub returns-then-n-eq0 : goal.returns-then-n-eq0
-returns-then-n-eq0 c = search (rules, ending-none)
-
-pub returns-then-e-q : goal.returns-then-e-q
-returns-then-e-q c = search (rules, ending-short)
+returns-then-n-eq0 c = search (rules, ending-none, ending-short)
 
 pub returns : goal.returns
 returns c = search (rules, ending-yes)

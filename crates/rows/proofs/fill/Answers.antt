@@ -1,15 +1,14 @@
-use borrow.Author.Rules.{rules}
 use Rattle.rows.proofs.Filling.{start, inside, turn, whole}
 use Rattle.rows.proofs.fill.Goals as goal
 
 pub loop-i-init : goal.loop-i-init
-loop-i-init c = search (start, rules)
+loop-i-init g c = search start
 
 pub bounds-column-i : goal.bounds-column-i
-bounds-column-i c = search inside
+bounds-column-i g c = search inside
 
 pub loop-i-preserved : goal.loop-i-preserved
-loop-i-preserved c = search (turn, rules)
+loop-i-preserved g c = search turn
 
 pub returns : goal.returns
-returns c = search whole
+returns g c = search whole

@@ -1,7 +1,6 @@
 use Prim.Native.Nat.{◌+◌, ◌-◌, ◌*◌, suc}
 use Rattle.limits.specs.Limits.{max_arity}
 use Rattle.context.specs.Parts.{part}
-use Rattle.store.specs.Store.{held}
 use Rattle.skimming.proofs.Walking.{Going}
 use Rattle.skimming.proofs.+skim_args.Given as goal
 
@@ -10,7 +9,7 @@ decreases-skim_args l = l.g.nest
 
 abbrev pub invariant-loop-k : goal.invariant-loop-k
 invariant-loop-k l =
-    Going (held l.store).names (held l.store).facts (part (held l.store).contexts l.p.from (l.p.end - l.p.from)) l.p.params l.s l.g.at l.g.count l.g.nest l.g.around l.g.within l.a l.k l.nest l.outer l.last
+    Going l.store.names l.store.facts (part l.store.contexts l.p.from (l.p.end - l.p.from)) l.p.params l.s l.fn.g.at l.fn.g.count l.fn.g.nest l.fn.g.around l.fn.g.within l.a l.k l.nest l.outer l.last
 
 abbrev pub decreases-loop-k : goal.decreases-loop-k
 decreases-loop-k l =

@@ -1,5 +1,5 @@
 -- `bound_inside`: only a built-in binds.
-use Rattle.skimming.proofs.Walking.{in-bound, in-built-in, in-instance, in-literal, in-name, in-no-token, in-parameter}
+use Rattle.skimming.proofs.Walking.{in-bound, in-built-in, in-instance, in-literal, in-name, in-parameter}
 use Rattle.skimming.proofs.bound_inside.Goals as goal
 
 pub returns-in-Parameter : goal.returns-in-Parameter
@@ -19,6 +19,3 @@ returns-in-BuiltIn c = search in-built-in
 
 pub returns-in-Literal : goal.returns-in-Literal
 returns-in-Literal c = search in-literal
-
-pub returns-in-NoToken : goal.returns-in-NoToken
-returns-in-NoToken c = search in-no-token

@@ -3,4 +3,4 @@ use Rattle.spelling.specs.Strings.{NumbersFit}
 use Rattle.spelling.proofs.names_fit.Goals as goal
 
 pub returns : goal.returns
-returns c = subst NumbersFit c.names_in.ensures c.numbers_fit.ensures
+returns c = subst NumbersFit c.names.ensures c.numbers_fit.ensures

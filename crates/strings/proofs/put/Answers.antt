@@ -1,32 +1,32 @@
 use Rattle.strings.proofs.Cases.{near_call, put-begin, put-call, put-code, put-end, put-name, put-number, put-par, put-var, room-begin, room-call, room-code, room-end, room-name, room-number, room-par, room-var}
 use Rattle.strings.proofs.put.Goals as goal
 
-pub put2-requires : goal.put2-requires
-put2-requires c = search room-par
+pub put_bytes-requires : goal.put_bytes-requires
+put_bytes-requires c = search room-par
 
-pub put3-requires : goal.put3-requires
-put3-requires c = search room-var
+pub put_bytes-requires-in-Var : goal.put_bytes-requires-in-Var
+put_bytes-requires-in-Var c = search room-var
 
-pub put4-requires : goal.put4-requires
-put4-requires c = search room-name
+pub put_bytes-requires-in-Name : goal.put_bytes-requires-in-Name
+put_bytes-requires-in-Name c = search room-name
 
-pub put2-requires-in-Code : goal.put2-requires-in-Code
-put2-requires-in-Code c = search room-code
+pub put_bytes-requires-in-Code : goal.put_bytes-requires-in-Code
+put_bytes-requires-in-Code c = search room-code
 
-pub put3-requires-in-Number : goal.put3-requires-in-Number
-put3-requires-in-Number c = search room-number
+pub put_bytes-requires-in-Number : goal.put_bytes-requires-in-Number
+put_bytes-requires-in-Number c = search room-number
 
 pub call_tag-requires : goal.call_tag-requires
 call_tag-requires c = search near_call
 
-pub put2-requires-in-Call : goal.put2-requires-in-Call
-put2-requires-in-Call c = search room-call
+pub put_bytes-requires-in-Call : goal.put_bytes-requires-in-Call
+put_bytes-requires-in-Call c = search room-call
 
-pub put1-requires : goal.put1-requires
-put1-requires c = search room-begin
+pub put_bytes-requires-in-Begin : goal.put_bytes-requires-in-Begin
+put_bytes-requires-in-Begin c = search room-begin
 
-pub put1-requires-in-End : goal.put1-requires-in-End
-put1-requires-in-End c = search room-end
+pub put_bytes-requires-in-End : goal.put_bytes-requires-in-End
+put_bytes-requires-in-End c = search room-end
 
 pub returns-in-Par : goal.returns-in-Par
 returns-in-Par c = search put-par

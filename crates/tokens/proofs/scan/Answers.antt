@@ -21,8 +21,8 @@ loop-due-smaller c = search shape-less
 pub loop-due-preserved : goal.loop-due-preserved
 loop-due-preserved c = (search shape-within, search turn)
 
-pub returns-else-h : goal.returns-else-h
-returns-else-h c = search unknown
+pub returns-in_default : goal.returns-in_default
+returns-in_default c = search unknown
 
 pub returns : goal.returns
 returns c = search ended

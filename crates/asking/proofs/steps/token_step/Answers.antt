@@ -1,5 +1,5 @@
 -- `steps::token_step`: one lemma for each kind of token.
-use Rattle.asking.proofs.Stepping.{told-bound, told-code, told-literal, told-name, told_none, told-operator, told-parameter}
+use Rattle.asking.proofs.Stepping.{told-bound, told-code, told-literal, told-name, told-operator, told-parameter}
 use borrow.Author.Rules.{rules}
 use Rattle.asking.proofs.steps.token_step.Goals as goal
 
@@ -20,6 +20,3 @@ returns-in-BuiltIn c = search (rules, told-code)
 
 pub returns-in-Literal : goal.returns-in-Literal
 returns-in-Literal c = search (rules, told-literal)
-
-pub returns-in-NoToken : goal.returns-in-NoToken
-returns-in-NoToken c = search (rules, told_none)

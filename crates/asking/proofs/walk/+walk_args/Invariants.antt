@@ -1,7 +1,6 @@
 use Prim.Native.Nat.{◌+◌, ◌-◌, ◌*◌, suc}
 use Rattle.limits.specs.Limits.{max_arity}
 use Rattle.context.specs.Parts.{part}
-use Rattle.store.specs.Store.{held}
 use Rattle.asking.proofs.Walking.{Going}
 use Rattle.asking.proofs.walk.+walk_args.Given as goal
 
@@ -10,7 +9,7 @@ decreases-walk_args l = l.g.nest
 
 abbrev pub invariant-loop-k : goal.invariant-loop-k
 invariant-loop-k l =
-    Going (held l.store).names (held l.store).facts (part (held l.store).contexts l.p.from (l.p.end - l.p.from)) l.words l.p.params l.s l.g.at l.g.count l.g.nest (record { around = l.initial.around; within = l.initial.within; label = l.initial.label; labels = l.initial.labels }) l.g.form l.a l.form l.k l.nest l.around l.within l.label l.labels
+    Going l.store.names l.store.facts (part l.store.contexts l.p.from (l.p.end - l.p.from)) l.words l.p.params l.s l.fn.g.at l.fn.g.count l.fn.g.nest (record { around = l.initial.around; within = l.initial.within; label = l.initial.label; labels = l.initial.labels }) l.fn.g.form l.a l.form l.k l.nest l.around l.within l.label l.labels
 
 abbrev pub decreases-loop-k : goal.decreases-loop-k
 decreases-loop-k l =

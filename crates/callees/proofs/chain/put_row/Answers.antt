@@ -4,4 +4,4 @@ use borrow.Author.Rules.{rules}
 use Rattle.callees.proofs.chain.put_row.Goals as goal
 
 pub returns : goal.returns
-returns c = row_laid _ _ _ _ _ c.copy_numbers.ensures (search rules) (search rules)
+returns c = row_laid _ _ _ _ _ c.copy_from_slice.ensures.after (search rules) (search rules)

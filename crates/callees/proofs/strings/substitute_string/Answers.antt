@@ -3,8 +3,8 @@ use Rattle.callees.proofs.Telling.{substituted-implied, substituted-written}
 use borrow.Author.Rules.{rules}
 use Rattle.callees.proofs.strings.substitute_string.Goals as goal
 
-pub returns-in-Written : goal.returns-in-Written
-returns-in-Written c = search (rules, substituted-written)
+pub returns-in-Some : goal.returns-in-Some
+returns-in-Some c = search (rules, substituted-written)
 
-pub returns-in-Unwritten : goal.returns-in-Unwritten
-returns-in-Unwritten c = search (rules, substituted-implied)
+pub returns-in-None : goal.returns-in-None
+returns-in-None c = search (rules, substituted-implied)

@@ -1,5 +1,4 @@
 -- `brought::brought_forms`: the first i definitions have their forms.
-use Prim.Native.Nat.{◌-◌}
 use Rattle.chains.proofs.Bringing.{brings-start, brings-turn, brings-whole}
 use borrow.Author.Rules.{rules}
 use Rattle.chains.proofs.brought.brought_forms.Goals as goal

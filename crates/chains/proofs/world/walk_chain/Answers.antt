@@ -8,7 +8,7 @@ pub loop-numbers-init : goal.loop-numbers-init
 loop-numbers-init c = search (rules, along-start)
 
 pub enter_step-requires : goal.enter_step-requires
-enter_step-requires c = (search rules, search rules, search rules, search rules, search rules, cc)
+enter_step-requires c = (search rules, search rules, search rules, cc)
 
 pub outer_after-outer-requires : goal.outer_after-outer-requires
 outer_after-outer-requires c = (search rules, search rules, cc)

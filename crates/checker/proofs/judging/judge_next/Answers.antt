@@ -1,12 +1,12 @@
 use mathlib.Core.Path.{◌∙◌, sym}
-use Rattle.checker.proofs.Turns.{asks, turned, turned-cut, turned-end}
+use Rattle.checker.proofs.Turns.{asks, settled-cut, settled_end, turned}
 use Rattle.checker.proofs.judging.judge_next.Goals as goal
 
 pub returns-then-is_end : goal.returns-then-is_end
-returns-then-is_end c = search turned-end
+returns-then-is_end c = search settled_end
 
 pub returns-then-is_cut : goal.returns-then-is_cut
-returns-then-is_cut c = search turned-cut
+returns-then-is_cut c = search settled-cut
 
 pub judge_field-j-requires : goal.judge_field-j-requires
 judge_field-j-requires c = asks _ _ c.requires.1 c.requires.2 c.requires.0 c.read-step.result c.read-step.ensures

@@ -1,6 +1,4 @@
-use Prim.Native.Nat.{◌-◌}
 use mathlib.Core.Path.{refl}
-use native.Mathlib.Omega.{arith}
 use Rattle.context.proofs.Joins.{contexts-frames, uniting-done, uniting-room, uniting-size, uniting-small, uniting-start, uniting-turn}
 use borrow.Author.Rules.{rules}
 use Rattle.context.proofs.extending.unite_contexts.Goals as goal
@@ -10,9 +8,6 @@ loop-i-init c = (search uniting-start, refl)
 
 pub join_context-n-requires : goal.join_context-n-requires
 join_context-n-requires c = (search rules, search uniting-small, search uniting-room, search uniting-size)
-
-pub loop-i-smaller : goal.loop-i-smaller
-loop-i-smaller c = omega arith
 
 pub loop-i-preserved : goal.loop-i-preserved
 loop-i-preserved c = (search uniting-turn, search contexts-frames)

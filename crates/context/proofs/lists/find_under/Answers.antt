@@ -1,4 +1,3 @@
-use Prim.Native.Nat.{◌-◌}
 use mathlib.Core.Path.{refl}
 use Rattle.context.proofs.Search.{under-end, under-hit, under_next}
 use Rattle.context.proofs.lists.find_under.Goals as goal

@@ -1,5 +1,6 @@
-use Prim.Native.Nat.{◌-◌}
 use mathlib.Core.Path.{refl}
+use native.Mathlib.Omega.{arith}
+use Prim.Native.Nat.{◌≤◌}
 use Rattle.context.proofs.Search.{place_end, place-hit, place-next}
 use Rattle.context.proofs.lists.place_of.Goals as goal
 
@@ -13,4 +14,4 @@ pub loop-i-preserved : goal.loop-i-preserved
 loop-i-preserved c = search place-next
 
 pub returns : goal.returns
-returns c = search place_end
+returns c = let h : c.loop-i.i ≤ c.args.end = omega arith in search place_end

@@ -1,16 +1,7 @@
-use Prim.Native.Nat.{◌-◌}
-use mathlib.Core.Path.{refl}
-use Rattle.context.proofs.Search.{declared-end, declared-hit, declared-next}
+use borrow.Author.Rules.{rules}
+use Rattle.context.specs.Lookup.{declared_named, declares_name}
 use Rattle.context.proofs.lookup.find_declaration.Goals as goal
 
-pub loop-i-init : goal.loop-i-init
-loop-i-init c = refl
-
-pub returns-then-declares_name : goal.returns-then-declares_name
-returns-then-declares_name c = search declared-hit
-
-pub loop-i-preserved : goal.loop-i-preserved
-loop-i-preserved c = search declared-next
-
 pub returns : goal.returns
-returns c = search declared-end
+unfolding declared_named
+returns c = c.find_where.ensures (declares_name c.args.store.now.names c.args.store.now.facts c.args.name) (λ o r h p. search rules)

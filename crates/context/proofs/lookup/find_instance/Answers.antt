@@ -1,8 +1,8 @@
 use Rattle.context.proofs.Answers.{as-brought, no-brought}
 use Rattle.context.proofs.lookup.find_instance.Goals as goal
 
-pub returns-in-At : goal.returns-in-At
-returns-in-At c = search as-brought
+pub returns-in_err-find_entry : goal.returns-in_err-find_entry
+returns-in_err-find_entry c = search (no-brought, c.in_err-find_entry.was)
 
-pub returns-in-Absent : goal.returns-in-Absent
-returns-in-Absent c = search no-brought
+pub returns : goal.returns
+returns c = search (as-brought, c.in_ok-find_entry.was)

@@ -4,18 +4,18 @@ use Rattle.entering.proofs.Implying.{ref-constant, ref-variable, ref-defined, re
 use borrow.Author.Rules.{rules}
 use Rattle.entering.proofs.implied.implied_ref.Goals as goal
 
-pub returns-in-Constant : goal.returns-in-Constant
+pub returns-in-Some-Constant : goal.returns-in-Some-Constant
 unfolding implied_ref
-returns-in-Constant c = search (rules, ref-constant)
+returns-in-Some-Constant c = search (rules, ref-constant)
 
-pub returns-in-Variable : goal.returns-in-Variable
+pub returns-in-Some-Variable : goal.returns-in-Some-Variable
 unfolding implied_ref
-returns-in-Variable c = search (rules, ref-variable)
+returns-in-Some-Variable c = search (rules, ref-variable)
 
-pub returns-in-Defined : goal.returns-in-Defined
+pub returns-in-Some-Defined : goal.returns-in-Some-Defined
 unfolding implied_ref
-returns-in-Defined c = search ref-defined
+returns-in-Some-Defined c = search ref-defined
 
-pub returns-in-Unknown : goal.returns-in-Unknown
+pub returns-in-None : goal.returns-in-None
 unfolding implied_ref
-returns-in-Unknown c = search (rules, ref-unknown)
+returns-in-None c = search (rules, ref-unknown)

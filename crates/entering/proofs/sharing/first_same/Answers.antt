@@ -1,5 +1,4 @@
 -- `sharing::first_same`: the test has told that i is of the kind and name of d, or d itself is.
-use Prim.Native.Nat.{◌-◌}
 use Rattle.entering.proofs.Copied.{same_here, same-itself}
 use borrow.Author.Rules.{rules}
 use Rattle.entering.proofs.sharing.first_same.Goals as goal

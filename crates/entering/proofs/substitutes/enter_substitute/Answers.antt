@@ -2,8 +2,8 @@
 use Rattle.entering.proofs.Substituting.{added-one, added_none}
 use Rattle.entering.proofs.substitutes.enter_substitute.Goals as goal
 
-pub returns-in-At : goal.returns-in-At
-returns-in-At c = search added-one
+pub returns-in-Some : goal.returns-in-Some
+returns-in-Some c = search added-one
 
-pub returns-in-Absent : goal.returns-in-Absent
-returns-in-Absent c = search added_none
+pub returns-in_default : goal.returns-in_default
+returns-in_default c = search added_none

@@ -2,8 +2,8 @@
 use Rattle.entering.proofs.Substituting.{stands-written, stands-implied}
 use Rattle.entering.proofs.substitutes.substitute_form.Goals as goal
 
-pub returns-in-Written : goal.returns-in-Written
-returns-in-Written c = search stands-written
+pub returns-in-Some : goal.returns-in-Some
+returns-in-Some c = search stands-written
 
-pub returns-in-Unwritten : goal.returns-in-Unwritten
-returns-in-Unwritten c = search stands-implied
+pub returns-in-None : goal.returns-in-None
+returns-in-None c = search stands-implied

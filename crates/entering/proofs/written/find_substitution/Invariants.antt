@@ -1,9 +1,7 @@
+use Prim.Native.Nat.{◌-◌}
 use mathlib.Core.Path.{◌≡◌}
 use Rattle.entering.specs.Written.{written_at}
 use Rattle.entering.proofs.written.find_substitution.Given as goal
 
-abbrev pub invariant-loop-left : goal.invariant-loop-left
-invariant-loop-left l = written_at l.left l.s l.at l.name ≡ written_at l.count l.s l.from l.name
-
-abbrev pub decreases-loop-left : goal.decreases-loop-left
-decreases-loop-left l = l.left
+abbrev pub invariant-loop-i : goal.invariant-loop-i
+invariant-loop-i l = written_at (l.count - l._i) l.s l.at l.name ≡ written_at l.count l.s l.from l.name

@@ -8,13 +8,13 @@ loop-k-init c = (search (rules, going_start), search rules, search rules)
 
 pub loop-k-preserved : goal.loop-k-preserved
 loop-k-preserved c = (
-  going_on _ _ _ _ _ _ _ _ _ _ _ c.loop-k.invariant.0 c.loop-k-test.true _ _ c.replace_calls-r.ensures c.if-r.true (search rules) _ c.highest_call-c.ensures _ c.lesser-k.ensures,
+  going_on _ _ _ _ _ _ _ _ _ _ _ c.loop-k.invariant.0 c.loop-k-test.true _ _ c.replace_calls.ensures _ c.in_ok-size.was (search rules) _ c.highest_call-c.ensures _ (search rules),
   search rules,
   search rules,
 )
 
-pub returns-else-r : goal.returns-else-r
-returns-else-r c = search (rules, going-short)
+pub returns-in_err-size : goal.returns-in_err-size
+returns-in_err-size c = search (rules, going-short, c.in_err-size.was)
 
 pub returns : goal.returns
 returns c = search (rules, going_end)

@@ -6,9 +6,9 @@ use Rattle.expanding.proofs.passes.replace_calls.Goals as goal
 pub returns-then-string_weight-gt-EXPANSION_BYTES : goal.returns-then-string_weight-gt-EXPANSION_BYTES
 returns-then-string_weight-gt-EXPANSION_BYTES c = search (rules, step-heavy)
 
-pub returns-then-made : goal.returns-then-made
-returns-then-made c = step-rewritten _ _ _ _ _ _ _ _ _ _ _ c.template-made.ensures c.if-made.true _ _ c.requires.2
-    c.rewrite.ensures
+pub returns-in_err-tlen : goal.returns-in_err-tlen
+returns-in_err-tlen c = search (rules, step-no-template, c.in_err-tlen.was)
 
 pub returns : goal.returns
-returns c = search (rules, step-no-template)
+returns c = step-rewritten _ _ _ _ _ _ _ _ _ _ _ c.template.ensures _ c.in_ok-tlen.was _ _ c.requires.2
+    c.rewrite.ensures

@@ -1,4 +1,3 @@
-use Prim.Native.Nat.{◌-◌}
 use Rattle.expanding.proofs.Weighing.{weight-end, weight-turn, weight-within}
 use borrow.Author.Rules.{rules}
 use Rattle.expanding.proofs.passes.string_weight.Goals as goal

@@ -1,11 +1,8 @@
-use Rattle.fields.proofs.Payloads.{module-size, module-there, module-zero}
+use Rattle.fields.proofs.Payloads.{module-cut, module-there}
 use Rattle.fields.proofs.payload.module_parts.Goals as goal
 
-pub returns-then-n-eq0 : goal.returns-then-n-eq0
-returns-then-n-eq0 c = search (module-there, module-zero, module-size)
+pub returns-in-Some : goal.returns-in-Some
+returns-in-Some c = search module-there
 
-pub returns-else-n-eq0 : goal.returns-else-n-eq0
-returns-else-n-eq0 c = search (module-there, module-zero, module-size)
-
-pub returns-else-p-eq2 : goal.returns-else-p-eq2
-returns-else-p-eq2 c = search (module-there, module-zero, module-size)
+pub returns-in-None : goal.returns-in-None
+returns-in-None c = search module-cut

@@ -1,10 +1,6 @@
-use Prim.Native.Nat.{◌-◌}
 use Rattle.forms.specs.Forms.{level_at}
 use Rattle.forms.proofs.Finding.{Pairing}
 use Rattle.forms.proofs.card.add_pairs.Given as goal
 
 abbrev pub invariant-loop-i : goal.invariant-loop-i
 invariant-loop-i l = Pairing (level_at l.form) l.j l.before l.pairs l.i
-
-abbrev pub decreases-loop-i : goal.decreases-loop-i
-decreases-loop-i l = l.j - l.i

@@ -1,11 +1,6 @@
-use Prim.Native.Nat.{◌-◌}
-use Rattle.limits.specs.Limits.{level_count}
 use Rattle.forms.specs.Forms.{level_at}
 use Rattle.forms.proofs.Finding.{Masking}
 use Rattle.forms.proofs.probing.mask_of.Given as goal
 
 abbrev pub invariant-loop-bit : goal.invariant-loop-bit
 invariant-loop-bit l = Masking (level_at l.form) l.i l.mask l.bit
-
-abbrev pub decreases-loop-bit : goal.decreases-loop-bit
-decreases-loop-bit l = level_count - l.bit

@@ -8,5 +8,5 @@ returns-then-x-gt-ARITY c = search (rules, over-params)
 pub returns-then-module_over : goal.returns-then-module_over
 returns-then-module_over c = search (rules, over-module)
 
-pub returns : goal.returns
-returns c = search (rules, over-substitutions)
+pub returns-else-module_over : goal.returns-else-module_over
+returns-else-module_over c = search (rules, over-substitutions)

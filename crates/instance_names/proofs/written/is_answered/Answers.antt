@@ -2,18 +2,18 @@ use Rattle.instance_names.specs.Sites.{answered_some}
 use borrow.Author.Rules.{rules}
 use Rattle.instance_names.proofs.written.is_answered.Goals as goal
 
-pub returns-in-Constant : goal.returns-in-Constant
+pub returns-in-Some-Constant : goal.returns-in-Some-Constant
 unfolding answered_some
-returns-in-Constant c = search rules
+returns-in-Some-Constant c = search rules
 
-pub returns-in-Variable : goal.returns-in-Variable
+pub returns-in-Some-Variable : goal.returns-in-Some-Variable
 unfolding answered_some
-returns-in-Variable c = search rules
+returns-in-Some-Variable c = search rules
 
-pub returns-in-Defined : goal.returns-in-Defined
+pub returns-in-Some-Defined : goal.returns-in-Some-Defined
 unfolding answered_some
-returns-in-Defined c = search rules
+returns-in-Some-Defined c = search rules
 
-pub returns-in-Unknown : goal.returns-in-Unknown
+pub returns-in-None : goal.returns-in-None
 unfolding answered_some
-returns-in-Unknown c = search rules
+returns-in-None c = search rules

@@ -5,6 +5,3 @@ use Rattle.instance_names.proofs.written.repeated_name.Given as goal
 abbrev pub invariant-loop-left : goal.invariant-loop-left
 invariant-loop-left l =
     repeated_from l.file l.left l.at ≡ repeated_from l.file l.count l.from
-
-abbrev pub decreases-loop-left : goal.decreases-loop-left
-decreases-loop-left l = l.left

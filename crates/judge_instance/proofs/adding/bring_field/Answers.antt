@@ -3,7 +3,7 @@ use borrow.Author.Rules.{rules}
 use Rattle.judge_instance.proofs.adding.bring_field.Goals as goal
 
 pub forms_between-requires : goal.forms_between-requires
-forms_between-requires c = (search rules, search rules, search more, search still-few)
+forms_between-requires c = (search rules, search more, search still-few)
 
 pub returns : goal.returns
 returns c = search brought-done

@@ -1,10 +1,11 @@
 use mathlib.Core.Path.{refl}
+use Rattle.judge_plain.proofs.Found.{err-some, refused-by}
+use mathlib.Core.Path.{refl}
 use Rattle.judge_instance.proofs.FieldJudged.{lawful-brought, lawful-not}
-use borrow.Author.Rules.{rules}
 use Rattle.judge_instance.proofs.adding.lawful_field.Goals as goal
 
-pub returns-then-cause-ne0 : goal.returns-then-cause-ne0
-returns-then-cause-ne0 c = lawful-not _ _ _ _ _ _ _ _ _ _ _ _ _ c.later_cause-cause.ensures _ (search rules) c.refused.ensures refl
+pub returns-in-Err : goal.returns-in-Err
+returns-in-Err c = lawful-not _ _ _ _ _ _ _ _ _ _ _ _ _ c.in-Err.ensures _ (err-some _ refl) (refused-by c.refused.ensures c.number.ensures) refl
 
 pub returns : goal.returns
-returns c = search lawful-brought
+returns c = lawful-brought _ _ _ _ _ _ _ _ _ _ _ _ _ c.in_default.ensures _ _ _ refl c.bring_field.ensures refl

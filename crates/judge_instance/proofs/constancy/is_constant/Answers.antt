@@ -1,8 +1,8 @@
 use Rattle.judge_instance.proofs.ConstancyCases.{constant-even, constant-not}
 use Rattle.judge_instance.proofs.constancy.is_constant.Goals as goal
 
-pub returns-then-variable_among : goal.returns-then-variable_among
-returns-then-variable_among c = search constant-not
+pub returns-else-not-variable_among : goal.returns-else-not-variable_among
+returns-else-not-variable_among c = search constant-not
 
-pub returns : goal.returns
-returns c = search constant-even
+pub returns-then-not-variable_among : goal.returns-then-not-variable_among
+returns-then-not-variable_among c = search constant-even

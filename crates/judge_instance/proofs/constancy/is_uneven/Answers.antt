@@ -4,5 +4,5 @@ use Rattle.judge_instance.proofs.constancy.is_uneven.Goals as goal
 pub returns-then-d-lt-DEFINITIONS : goal.returns-then-d-lt-DEFINITIONS
 returns-then-d-lt-DEFINITIONS c = search uneven-form
 
-pub returns : goal.returns
-returns c = search uneven-other
+pub returns-else-d-lt-DEFINITIONS : goal.returns-else-d-lt-DEFINITIONS
+returns-else-d-lt-DEFINITIONS c = search uneven-other

@@ -4,5 +4,5 @@ use Rattle.judge_instance.proofs.constancy.is_variable.Goals as goal
 pub returns-then-is_declared : goal.returns-then-is_declared
 returns-then-is_declared c = search variable-code
 
-pub returns : goal.returns
-returns c = search variable-other
+pub returns-else-is_declared : goal.returns-else-is_declared
+returns-else-is_declared c = search variable-other

@@ -4,5 +4,5 @@ use Rattle.judge_instance.proofs.lawful.is_free.Goals as goal
 pub returns-then-kind-eq0 : goal.returns-then-kind-eq0
 returns-then-kind-eq0 c = search free-zero
 
-pub returns : goal.returns
-returns c = search free_other
+pub returns-else-kind-eq0 : goal.returns-else-kind-eq0
+returns-else-kind-eq0 c = search free_other

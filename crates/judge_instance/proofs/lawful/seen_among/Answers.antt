@@ -1,4 +1,3 @@
-use Prim.Native.Nat.{◌-◌}
 use Rattle.judge_instance.proofs.LevelCases.{seen_end, seen_next, seen_start}
 use Rattle.judge_instance.proofs.lawful.seen_among.Goals as goal
 

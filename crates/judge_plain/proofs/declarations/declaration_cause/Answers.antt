@@ -10,8 +10,8 @@ returns-then-c-ge-DECLARATIONS c = search declaration-over
 pub returns-then-arity-gt-ARITY : goal.returns-then-arity-gt-ARITY
 returns-then-arity-gt-ARITY c = search arity-over
 
-pub returns-in-At : goal.returns-in-At
-returns-in-At c = search name-there
+pub returns-then-is_some : goal.returns-then-is_some
+returns-then-is_some c = search name-there
 
-pub returns-in-Absent : goal.returns-in-Absent
-returns-in-Absent c = search name_free
+pub returns : goal.returns
+returns c = search name_free

@@ -1,12 +1,20 @@
-use Rattle.judge_plain.proofs.Answers.{answer-refused, answer-taken, few-by-cause, kept-after, kept-before}
+use mathlib.Core.Path.{◌∙◌, refl}
 use borrow.Author.Rules.{rules}
+use Rattle.judge_plain.proofs.Answers.{answer-refused, answer-taken, few-by-cause, kept-after, kept-before}
+use Rattle.judge_plain.proofs.Found.{err-some}
 use Rattle.judge_plain.proofs.declarations.declare.Goals as goal
 
-pub returns-then-cause-ne0 : goal.returns-then-cause-ne0
-returns-then-cause-ne0 c = (search answer-refused, search kept-before)
+pub returns-in-Err : goal.returns-in-Err
+returns-in-Err c =
+    let e = c.number.ensures ∙ c.in-Err.ensures in
+    let some = err-some _ c.number.ensures in
+    (answer-refused _ _ _ _ _ _ _ e some c.refused.ensures, kept-before _ _ _ _ e some)
 
 pub add_declaration-counts-requires : goal.add_declaration-counts-requires
-add_declaration-counts-requires c = (search rules, search rules, search few-by-cause, search rules)
+add_declaration-counts-requires c =
+    (search rules, search rules, few-by-cause _ _ _ _ _ _ _ c.in_default.ensures refl, search rules)
 
 pub returns : goal.returns
-returns c = (search answer-taken, search kept-after)
+returns c =
+    let e = c.in_default.ensures in
+    (answer-taken _ _ _ _ _ _ _ e refl c.add_declaration-counts.ensures.0, kept-after _ _ _ _ _ e refl c.add_declaration-counts.ensures.1)

@@ -1,12 +1,19 @@
-use Rattle.judge_plain.proofs.Answers.{answer-refused, answer-taken, fewer-ended, kept-after, kept-before}
+use mathlib.Core.Path.{◌∙◌, refl}
 use borrow.Author.Rules.{rules}
+use Rattle.judge_plain.proofs.Answers.{answer-refused, answer-taken, fewer-ended, kept-after, kept-before}
+use Rattle.judge_plain.proofs.Found.{err-some}
 use Rattle.judge_plain.proofs.modules.end_field.Goals as goal
 
-pub returns-then-cause-ne0 : goal.returns-then-cause-ne0
-returns-then-cause-ne0 c = (search answer-refused, search kept-before)
+pub returns-in-Err : goal.returns-in-Err
+returns-in-Err c =
+    let e = c.number.ensures ∙ c.in-Err.ensures in
+    let some = err-some _ c.number.ensures in
+    (answer-refused _ _ _ _ _ _ _ e some c.refused.ensures, kept-before _ _ _ _ e some)
 
 pub end_module-counts-requires : goal.end_module-counts-requires
-end_module-counts-requires c = (search fewer-ended, search rules)
+end_module-counts-requires c = (fewer-ended _ _ _ c.in_default.ensures refl c.requires.2, search rules)
 
 pub returns : goal.returns
-returns c = (search answer-taken, search kept-after)
+returns c =
+    let e = c.in_default.ensures in
+    (answer-taken _ _ _ _ _ _ _ e refl c.end_module-counts.ensures.0, kept-after _ _ _ _ _ e refl c.end_module-counts.ensures.1)

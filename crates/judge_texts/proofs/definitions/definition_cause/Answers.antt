@@ -10,11 +10,11 @@ returns-then-c-ge-DEFINITIONS c = search define-many
 pub returns-then-d-gt-ARITY : goal.returns-then-d-gt-ARITY
 returns-then-d-gt-ARITY c = search define-wide
 
-pub returns-then-is_passed : goal.returns-then-is_passed
-returns-then-is_passed c = search define-over
+pub returns-then-is_none : goal.returns-then-is_none
+returns-then-is_none c = search define-over
 
-pub returns-in-At : goal.returns-in-At
-returns-in-At c = search define-there
+pub returns-then-is_some : goal.returns-then-is_some
+returns-then-is_some c = search define-there
 
-pub returns-in-Absent : goal.returns-in-Absent
-returns-in-Absent c = search define-free
+pub returns : goal.returns
+returns c = search define-free

@@ -1,8 +1,9 @@
 use Rattle.judge_plain.proofs.Answers.{answer-refused, answer-taken}
+use Rattle.judge_plain.proofs.Found.{err-some}
 use Rattle.judge_texts.proofs.formulas.answered.Goals as goal
 
-pub returns-then-cause-ne0 : goal.returns-then-cause-ne0
-returns-then-cause-ne0 c = search answer-refused
+pub returns-in-Err : goal.returns-in-Err
+returns-in-Err c = rw c.in-Err.is (search (answer-refused, c.number.ensures, err-some _ c.number.ensures))
 
 pub returns : goal.returns
-returns c = search answer-taken
+returns c = rw c.in_default.is (search answer-taken)

@@ -1,5 +1,4 @@
 -- `names::identity`: the first i numbers stand.
-use Prim.Native.Nat.{◌-◌}
 use Rattle.levels.proofs.Numbered.{numbered-start, numbered-turn, numbered-length, numbered-inside, numbered-whole}
 use borrow.Author.Rules.{rules}
 use Rattle.levels.proofs.names.identity.Goals as goal

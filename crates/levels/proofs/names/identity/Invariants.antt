@@ -1,10 +1,5 @@
-use Prim.Native.Nat.{◌-◌}
-use Rattle.limits.specs.Limits.{max_definitions}
 use Rattle.levels.proofs.Numbered.{Numbered}
 use Rattle.levels.proofs.names.identity.Given as goal
 
 abbrev pub invariant-loop-i : goal.invariant-loop-i
 invariant-loop-i l = Numbered l.initial.numbers l.numbers l.i
-
-abbrev pub decreases-loop-i : goal.decreases-loop-i
-decreases-loop-i l = max_definitions - l.i

@@ -5,5 +5,5 @@ use Rattle.levels.proofs.steps.built_in_step.Goals as goal
 pub returns-then-kind-lt-NO_KIND : goal.returns-then-kind-lt-NO_KIND
 returns-then-kind-lt-NO_KIND c = search (rules, built-there)
 
-pub returns : goal.returns
-returns c = search (rules, built-lost)
+pub returns-else-kind-lt-NO_KIND : goal.returns-else-kind-lt-NO_KIND
+returns-else-kind-lt-NO_KIND c = search (rules, built-lost)

@@ -1,5 +1,4 @@
 use native.Mathlib.Omega.{arith}
-use Prim.Native.Nat.{◌-◌}
 use Rattle.lines.proofs.Spelling.{spelt-start, spelt-turn, spelt-length, spelt-room, spelt-done}
 use borrow.Author.Rules.{rules}
 use Rattle.lines.proofs.digits.put_card.Goals as goal

@@ -1,5 +1,4 @@
 -- `put_lines`: line after line.
-use Prim.Native.Nat.{◌-◌}
 use Rattle.lines.proofs.Lines.{lined-done, lined-length, lined-start, lined-turn}
 use borrow.Author.Rules.{rules}
 use Rattle.lines.proofs.listing.put_lines.Goals as goal

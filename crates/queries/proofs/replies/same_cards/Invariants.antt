@@ -6,6 +6,3 @@ use Rattle.queries.proofs.replies.same_cards.Given as goal
 
 abbrev pub invariant-loop-i : goal.invariant-loop-i
 invariant-loop-i l = (l.i ≤ card_bytes) × (same_from l.cards (card_bytes * l.a) (card_bytes * l.b) l.i (card_bytes - l.i) ≡ same_from l.cards (card_bytes * l.a) (card_bytes * l.b) 0 card_bytes)
-
-abbrev pub decreases-loop-i : goal.decreases-loop-i
-decreases-loop-i l = card_bytes - l.i

@@ -5,4 +5,4 @@ use borrow.Author.Rules.{rules}
 use Rattle.query_strings.proofs.steps.after_token.Goals as goal
 
 pub overflow_add-result : goal.overflow_add-result
-overflow_add-result c = fits _ _ _ _ _ c.requires.0 refl c.requires.1 c.width.ensures (search rules)
+overflow_add-result c = fits _ _ _ _ _ refl c.requires c.width.ensures (search rules)

@@ -1,4 +1,4 @@
-use Rattle.resolve.proofs.Looking.{at-parameter, at_bound, at_name, at-instance, at-built-in, at_literal, at-no-token}
+use Rattle.resolve.proofs.Looking.{at-parameter, at_bound, at_name, at-instance, at-built-in, at_literal}
 use Rattle.resolve.proofs.lookup.look_up.Goals as goal
 
 pub returns-in-Parameter : goal.returns-in-Parameter
@@ -18,6 +18,3 @@ returns-in-BuiltIn c = search at-built-in
 
 pub returns-in-Literal : goal.returns-in-Literal
 returns-in-Literal c = search at_literal
-
-pub returns-in-NoToken : goal.returns-in-NoToken
-returns-in-NoToken c = search at-no-token

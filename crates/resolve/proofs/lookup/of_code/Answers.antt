@@ -1,8 +1,8 @@
 use Rattle.resolve.proofs.Looking.{code_at, code-absent}
 use Rattle.resolve.proofs.lookup.of_code.Goals as goal
 
-pub returns-in-At : goal.returns-in-At
-returns-in-At c = search code_at
+pub returns-in_err-x : goal.returns-in_err-x
+returns-in_err-x c = search (code-absent, c.in_err-x.was)
 
-pub returns-in-Absent : goal.returns-in-Absent
-returns-in-Absent c = search code-absent
+pub returns : goal.returns
+returns c = search (code_at, c.in_ok-x.was)

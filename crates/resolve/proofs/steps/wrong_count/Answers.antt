@@ -1,5 +1,5 @@
 use Rattle.resolve.proofs.Walking.{wrong-count}
 use Rattle.resolve.proofs.steps.wrong_count.Goals as goal
 
-pub returns-in-Ref : goal.returns-in-Ref
-returns-in-Ref c = search wrong-count
+pub returns-in-Some : goal.returns-in-Some
+returns-in-Some c = search wrong-count

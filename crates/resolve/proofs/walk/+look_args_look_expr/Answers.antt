@@ -24,8 +24,8 @@ look_expr-overflow_add-next t c = search fits
 pub look_expr-look_args-a-requires : goal.look_expr-look_args-a-requires
 look_expr-look_args-a-requires t c = (search rules, (search rules, search rules, search deeper-low))
 
-pub look_expr-returns-then-is_token : goal.look_expr-returns-then-is_token
-look_expr-returns-then-is_token t c = search w-token
+pub look_expr-returns : goal.look_expr-returns
+look_expr-returns t c = search w-token
 
-pub look_expr-returns-else-is_token : goal.look_expr-returns-else-is_token
-look_expr-returns-else-is_token t c = search w-nothing
+pub look_expr-returns-in_default : goal.look_expr-returns-in_default
+look_expr-returns-in_default t c = search w-nothing

@@ -1,4 +1,4 @@
-use Rattle.spelling.proofs.Heading.{headed-bound, headed-built-in, headed-instance, headed-literal, headed-name, headed-none, headed-parameter}
+use Rattle.spelling.proofs.Heading.{headed-bound, headed-built-in, headed-instance, headed-literal, headed-name, headed-parameter}
 use Rattle.spelling.proofs.heads.head.Goals as goal
 
 pub returns-in-Parameter : goal.returns-in-Parameter
@@ -18,6 +18,3 @@ returns-in-BuiltIn c = search headed-built-in
 
 pub returns-in-Literal : goal.returns-in-Literal
 returns-in-Literal c = search headed-literal
-
-pub returns-in-NoToken : goal.returns-in-NoToken
-returns-in-NoToken c = search headed-none

@@ -17,8 +17,8 @@ write_expr-returns-then-nest-eq0 t c = search wrote-limit
 pub write_expr-overflow_add-start : goal.write_expr-overflow_add-start
 write_expr-overflow_add-start t c = search fits
 
-pub write_expr-returns-then-is_token : goal.write_expr-returns-then-is_token
-write_expr-returns-then-is_token t c = search text-token
+pub write_expr-returns : goal.write_expr-returns
+write_expr-returns t c = search text-token
 
-pub write_expr-returns-else-is_token : goal.write_expr-returns-else-is_token
-write_expr-returns-else-is_token t c = search wrote_nothing
+pub write_expr-returns-in_default : goal.write_expr-returns-in_default
+write_expr-returns-in_default t c = search wrote_nothing

@@ -8,11 +8,11 @@ returns-then-shifts_wide c = search (rules, short-wide)
 pub shifted-requires : goal.shifted-requires
 shifted-requires c = (search rules, search rules, search told)
 
-pub put_one-f-requires : goal.put_one-f-requires
-put_one-f-requires c = (search rules, search shifted-narrow, search shifted-near)
+pub put_one-requires : goal.put_one-requires
+put_one-requires c = (search rules, search shifted-narrow, search shifted-near)
 
-pub returns-then-f : goal.returns-then-f
-returns-then-f c = search (rules, writes)
+pub returns-in_default : goal.returns-in_default
+returns-in_default c = search (rules, short-room)
 
 pub returns : goal.returns
-returns c = search (rules, short-room)
+returns c = search (rules, writes)

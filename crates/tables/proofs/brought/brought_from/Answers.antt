@@ -3,8 +3,8 @@ use Rattle.tables.proofs.Bringing.{under_first, under-past}
 use borrow.Author.Rules.{rules}
 use Rattle.tables.proofs.brought.brought_from.Goals as goal
 
-pub returns-then-first-count : goal.returns-then-first-count
-returns-then-first-count c = search (under-past, rules)
+pub returns-then-b-g : goal.returns-then-b-g
+returns-then-b-g c = search (under-past, rules)
 
 pub returns-then-stands_under : goal.returns-then-stands_under
 returns-then-stands_under c = search (under_first, rules)

@@ -1,9 +1,5 @@
 use Rattle.tables.proofs.Bringing.{RowFrom}
-use Rattle.store.specs.Store.{held}
 use Rattle.tables.proofs.brought.fill_row.Given as goal
 
 abbrev pub invariant-loop-s : goal.invariant-loop-s
-invariant-loop-s l = RowFrom (held l.store).names l.initial.nexts l.r l.s l.found l.nexts
-
-abbrev pub decreases-loop-s : goal.decreases-loop-s
-decreases-loop-s l = l.s
+invariant-loop-s l = RowFrom l.store.names l.initial.nexts l.r l.s l.found l.nexts

@@ -1,4 +1,3 @@
-use Prim.Native.Nat.{◌-◌}
 use Rattle.tables.proofs.Bringing.{rows_end, rows-same-size, rows-size, rows_start, rows-turn}
 use borrow.Author.Rules.{rules}
 use Rattle.tables.proofs.brought.fill_rows.Goals as goal

@@ -1,5 +1,4 @@
 -- `brought::represent`: the first g definitions are represented.
-use Prim.Native.Nat.{◌-◌}
 use Rattle.tables.proofs.Bringing.{represented-end, represented-inside, represented-size, represented-start, represented-turn}
 use borrow.Author.Rules.{rules}
 use Rattle.tables.proofs.brought.represent.Goals as goal

@@ -1,5 +1,4 @@
 -- `names::fill`: the codes from place i on are in the table.
-use Prim.Native.Nat.{◌-◌}
 use Rattle.tables.proofs.Naming.{placing-end, placing-inside, placing-size, placing-start, placing-turn}
 use borrow.Author.Rules.{rules}
 use Rattle.tables.proofs.names.fill.Goals as goal

@@ -1,5 +1,5 @@
 -- `names::look`: only names are looked up.
-use Rattle.resolve.proofs.Looking.{at_bound, at-built-in, at_literal, at-no-token, at-parameter}
+use Rattle.resolve.proofs.Looking.{at_bound, at-built-in, at_literal, at-parameter}
 use Rattle.tables.proofs.Naming.{look-instance, look-name}
 use Rattle.tables.proofs.names.look.Goals as goal
 
@@ -20,6 +20,3 @@ returns-in-BuiltIn c = search at-built-in
 
 pub returns-in-Literal : goal.returns-in-Literal
 returns-in-Literal c = search at_literal
-
-pub returns-in-NoToken : goal.returns-in-NoToken
-returns-in-NoToken c = search at-no-token

@@ -2,8 +2,8 @@
 use Rattle.tables.proofs.Naming.{instance-code, no-instance}
 use Rattle.tables.proofs.names.look_instance.Goals as goal
 
-pub returns-in-At : goal.returns-in-At
-returns-in-At c = search instance-code
+pub returns-in_err-x : goal.returns-in_err-x
+returns-in_err-x c = rw c.from_residual.ensures (search (no-instance, c.in_err-x.was))
 
-pub returns-in-Absent : goal.returns-in-Absent
-returns-in-Absent c = search no-instance
+pub returns : goal.returns
+returns c = search (instance-code, c.in_ok-x.was)

@@ -1,5 +1,4 @@
 -- `alike::first_alike`.
-use Prim.Native.Nat.{◌-◌}
 use Rattle.templates.proofs.Firsts.{alike-found, alike-itself}
 use borrow.Author.Rules.{rules}
 use Rattle.templates.proofs.alike.first_alike.Goals as goal

@@ -1,5 +1,4 @@
 -- `alike::note_firsts`: those of the first e declarations have been noted.
-use Prim.Native.Nat.{◌-◌}
 use Rattle.templates.proofs.Firsts.{noting-end, noting-start, noting-turn}
 use borrow.Author.Rules.{rules}
 use Rattle.templates.proofs.alike.note_firsts.Goals as goal

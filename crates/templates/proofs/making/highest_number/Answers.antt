@@ -1,5 +1,4 @@
 -- `making::highest_number`: what is left has no higher number than what is found and what is left.
-use Prim.Native.Nat.{◌-◌}
 use Rattle.templates.proofs.Highest.{highest-end, highest-turn, most-small}
 use borrow.Author.Rules.{rules}
 use Rattle.templates.proofs.making.highest_number.Goals as goal

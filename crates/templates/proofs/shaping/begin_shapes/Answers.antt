@@ -1,5 +1,4 @@
 -- `shaping::begin_shapes`: the first i shapes are copied.
-use Prim.Native.Nat.{◌-◌}
 use Rattle.templates.proofs.Defining.{beginning-end, beginning-start, beginning-turn}
 use borrow.Author.Rules.{rules}
 use Rattle.templates.proofs.shaping.begin_shapes.Goals as goal

@@ -1,7 +1,6 @@
 use mathlib.Core.Path.{◌≡◌}
-use Prim.Native.Nat.{◌-◌, ◌≤◌}
+use Prim.Native.Nat.{◌≤◌}
 use lib.ListN.{length}
-use Rattle.store.specs.Store.{held}
 use Rattle.callees.specs.Walk.{Sized}
 use Rattle.templates.specs.Shaped.{shape_count, text_bytes}
 use Rattle.templates.proofs.Defining.{Defining}
@@ -9,8 +8,4 @@ use Rattle.templates.proofs.shaping.shape_all.Given as goal
 
 abbrev pub invariant-loop-d : goal.invariant-loop-d
 invariant-loop-d l =
-    Defining l.file l.refs (held l.store) (held l.store).declared l.n l.d l.shapes × (l.d ≤ l.count) × Sized l.numbers l.currents l.outers × (length l.text ≡ text_bytes) × (length l.along ≡ shape_count)
-
-abbrev pub decreases-loop-d : goal.decreases-loop-d
-decreases-loop-d l =
-    l.count - l.d
+    Defining l.file l.refs l.store l.store.declared l.n l.d l.shapes × (l.d ≤ l.count) × (length l.text ≡ text_bytes) × (length l.along ≡ shape_count)

@@ -1,5 +1,4 @@
 -- `shaping::shape_levels`: the stand-ins of numbers below m have their shapes.
-use Prim.Native.Nat.{◌-◌}
 use Rattle.templates.proofs.Storing.{storing-end, storing-start, storing-turn}
 use borrow.Author.Rules.{rules}
 use Rattle.templates.proofs.shaping.shape_levels.Goals as goal
@@ -8,7 +7,7 @@ pub loop-m-init : goal.loop-m-init
 loop-m-init c = search (rules, storing-start)
 
 pub next_shape-h-requires : goal.next_shape-h-requires
-next_shape-h-requires c = (search rules, search rules, search rules, search rules, search rules, search rules)
+next_shape-h-requires c = (search rules, search rules, search rules, search rules, search rules)
 
 pub loop-m-preserved : goal.loop-m-preserved
 loop-m-preserved c = (storing-turn _ _ _ _ _ _ _ _ _ _ _ _ _ c.loop-m.invariant.0 (search rules) c.next_shape-h.ensures, search rules)

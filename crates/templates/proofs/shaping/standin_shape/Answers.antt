@@ -5,5 +5,5 @@ use borrow.Author.Rules.{rules}
 use Rattle.templates.proofs.shaping.standin_shape.Goals as goal
 
 pub returns : goal.returns
-returns c = standin-shaped _ _ _ _ _ _ _ _ _ _ _ _ _ _ _ _ (search rules) refl refl c.standin_string-t.ensures (search rules) (search rules) c.shape_of.ensures
+returns c = standin-shaped _ _ _ _ _ _ _ _ _ _ _ _ _ _ _ _ (search rules) refl refl c.standin_string-tlen.ensures (search rules) (search rules) c.shape_of.ensures
     c.kept_shape.ensures

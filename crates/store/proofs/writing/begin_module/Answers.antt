@@ -1,6 +1,0 @@
-use Rattle.store.proofs.Pushing.{begun-at}
-use borrow.Author.Rules.{rules}
-use Rattle.store.proofs.writing.begin_module.Goals as goal
-
-pub returns : goal.returns
-returns c = search (rules, begun-at)

@@ -1,6 +1,0 @@
-use Rattle.store.proofs.Pushing.{order-pushed}
-use borrow.Author.Rules.{rules}
-use Rattle.store.proofs.writing.push_order.Goals as goal
-
-pub returns : goal.returns
-returns c = search (rules, order-pushed)
