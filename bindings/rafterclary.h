@@ -5,7 +5,7 @@
  * lasts no other thread may touch it, nor write what is read. It is written only as paper 01 says:
  * the card memory, and of that the first 4,096 bytes at most, and the output of an expansion, and
  * of that its length. The tables of a call are on the native stack. On the stored files a check
- * used 437 KB of it at most, a query for a level, likeness or a body 693 KB and an expansion 1,128
+ * used 438 KB of it at most, a query for a level, likeness or a body 694 KB and an expansion 1,131
  * KB; allow some tens of KB more, for recursion. Of the C library the archive calls memcpy, memmove
  * and memset, and nothing else.
  *

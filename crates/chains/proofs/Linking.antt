@@ -88,7 +88,7 @@ pub link-entered : (file refs : List ℕ) (v : Store) (declared : List ℕ) (n o
 link-entered file refs v declared n outer o numbers numbers' inner inner' empty next s e r =
     record { next = next; empty = empty; substituted = s; numbering = e; replaced = r }
 
--- what the code reads is the column
+-- what the code reads is the fact
 
 pub columns-read : (facts : List Facts) (outer o k f w l : ℕ) (r : Bool) → r ≡ columns_fit outer k f w l → k ≡ kind_at facts o → f ≡ first_at facts o → w ≡ via_at facts o
     → l ≡ link_at facts o → r ≡ link_fits facts outer o

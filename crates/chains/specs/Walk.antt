@@ -11,7 +11,7 @@ use Rattle.entering.specs.Numbering.{Entered}
 use Rattle.entering.specs.Replaced.{Replaced}
 use Rattle.entering.specs.Substitutes.{Around, Fitting, Substituted, around}
 
--- an INSTANCE field by its columns kind, source and link, with so many parameters around it
+-- an INSTANCE field by its facts kind, source and link, with so many parameters around it
 abbrev pub site_by : ℕ → ℕ → ℕ → ℕ → Site
 site_by outer kind source link =
     record {
@@ -26,7 +26,7 @@ site_by outer kind source link =
 abbrev pub site_of : List Facts → ℕ → ℕ → Site
 site_of facts outer o = site_by outer (kind_at facts o) (source_at facts o) (link_at facts o)
 
--- columns within the limits
+-- facts within the limits
 unfoldable pub columns_fit : ℕ → ℕ → ℕ → ℕ → ℕ → Bool
 columns_fit outer kind first via link =
     cond (ltb kind instance_kind) false

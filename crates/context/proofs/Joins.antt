@@ -51,7 +51,7 @@ module _ (marks lists : List ℕ) (base count x : ℕ) (m : Marked marks (part l
       let q : any (eqb x) (part lists base count) ≡ true = m.says x ∙ ap not (ne_eqb (get_or marks x 0) 0 e) in
       sym (ap (λ (b : Bool). cond b (part lists base count) (part lists base count ++ (x ∷ []))) q)
 
--- the store with one region written, the rest as it was
+-- the store with one list written, the rest as it was
 pub contexts-frame : (v w : Store) (l : List ℕ) → w ≡ with_contexts v l → w ≡ with_contexts v w.contexts
 contexts-frame v w l e = rw e refl
 

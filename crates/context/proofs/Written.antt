@@ -1,4 +1,4 @@
--- What the code writes, one region after another, is what an addition leaves.
+-- What the code writes, one list after another, is what an addition leaves.
 use mathlib.Core.Path.{◌≡◌, refl}
 use lib.ListN.{get_or, set}
 use Prim.Native.Nat.{◌<◌, ℕ}

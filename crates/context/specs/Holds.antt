@@ -14,7 +14,7 @@ use Rattle.context.specs.declared.Counts.{Counts}
 abbrev pub module_no : State → ℕ → Module
 module_no s m = get_or (s.ended ++ (s.current ∷ [])) m no_module
 
--- what the columns source and link of definition g say of its meaning: an own definition comes from itself, a brought one from its original
+-- what the facts source and link of definition g say of its meaning: an own definition comes from itself, a brought one from its original
 abbrev pub Linked : ℕ → Definition → ℕ → ℕ → Type 0
 Linked g (own p t) source link = (source ≡ g) × (link ≡ 0)
 Linked g (brought p σ original) source link = (source ≡ original) × (0 < link)
@@ -24,7 +24,7 @@ pub record Known (fields definitions o : ℕ) : Type 0 where
   pub below : o < max_definitions + fields
   pub defined : o < max_definitions → o < definitions
 
--- the regions have their sizes, the counts are within the limits, and every list is within its room
+-- the lists have their sizes, the counts are within the limits, and every list is within its room
 pub record Sized (v : Store) (c : Counts) : Type 0 where
   pub names : length v.names ≡ code_count
   pub facts : length v.facts ≡ code_count

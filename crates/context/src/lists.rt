@@ -1,4 +1,4 @@
-// Lists in regions of the store: searching.
+// The lists of the store: searching.
 ghost use Rattle.std.specs.Prelude.{◌≡◌, Bool, ℕ, ◌+◌, ◌-◌, ◌≤◌, get_or};
 ghost use Rattle.theory.specs.Lists.{find, numbers_from};
 ghost use Rattle.context.specs.Parts.{part, place_of};

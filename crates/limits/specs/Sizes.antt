@@ -1,4 +1,4 @@
--- The sizes of the regions of 16-bit numbers that keep what the fields add. They follow from the limits; nothing of the paper depends on them.
+-- The sizes of the arrays of 16-bit numbers that keep what the fields add. They follow from the limits; nothing of the paper depends on them.
 use Rattle.std.specs.Prelude.{ℕ, ◌+◌, ◌*◌, ◌/◌}
 use Rattle.limits.specs.Limits.{file_bytes, max_declarations, max_definitions, max_modules}
 

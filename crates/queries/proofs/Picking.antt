@@ -3,9 +3,8 @@ use borrow.Author.Tests.{le-leb, lt-leb}
 use mathlib.Core.Bool.{Bool, cond}
 use mathlib.Core.List.{List}
 use mathlib.Core.Path.{◌∙◌, ◌≡◌, ap, ap₂, sym}
-use Prim.Native.Nat.{ℕ, ◌+◌, ◌*◌, ◌≤◌, ◌<◌}
+use Prim.Native.Nat.{ℕ, ◌≤◌, ◌<◌}
 use lib.Dec.{leb}
-use lib.ListN.{get_or}
 use Rattle.store.specs.Store.{count_at, first_at}
 use Rattle.store.specs.declared.Facts.{Facts}
 use Rattle.queries.specs.Replies.{alike_at, body_at, like_at}

@@ -1,7 +1,6 @@
 // "Its expansion, ill-levelled or not, with its length": the file checked afresh, the lent card memory filled, and the output written.
 ghost use Rattle.std.specs.Prelude.{false, true, ◌≡◌, ◌≤◌, length};
 ghost use Rattle.limits.specs.Limits.{card_memory_bytes, file_bytes};
-ghost use Rattle.levels.specs.Tables.{table_words};
 ghost use Rattle.rules.specs.Bytes.{is_empty};
 ghost use Rattle.tokens.proofs.Writing.{Bytes};
 ghost use Rattle.checker.specs.Settles.{wrong_size};
@@ -27,7 +26,7 @@ fn expand_in(
     words: &mut [u64; Lent::WORDS],
     out: &mut [u8],
 ) -> Result<usize, Refusal>
-    requires { (card_memory_bytes ≤ length cards.old) × (is_empty file.now ≡ false) × (length file.now ≤ file_bytes) × Bytes file.now × (store.old ≡ empty) × (length refs.old ≡ file_bytes) × (length words.old ≡ table_words) }
+    requires { (card_memory_bytes ≤ length cards.old) × (is_empty file.now ≡ false) × (length file.now ≤ file_bytes) × Bytes file.now × (store.old ≡ empty) }
     ensures { Expanding file.now cards.old «module» params expr.now out.old result cards.new out.new }
 {
     let counts = judge_in(file, cards, store, refs, words)?;

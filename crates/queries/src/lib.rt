@@ -6,7 +6,6 @@ pub mod replies;
 
 ghost use Rattle.std.specs.Prelude.{false, true, ◌≡◌, ◌≤◌, length};
 ghost use Rattle.limits.specs.Limits.{card_memory_bytes, file_bytes};
-ghost use Rattle.levels.specs.Tables.{table_words};
 ghost use Rattle.rules.specs.Bytes.{is_empty};
 ghost use Rattle.rules.specs.Query.{alike_query, body_query, level_query};
 ghost use Rattle.tokens.proofs.Writing.{Bytes};
@@ -51,7 +50,7 @@ fn ask_in(
     refs: &mut [u16; Lent::REFS],
     words: &mut [u64; Lent::WORDS],
 ) -> Result<Answer, Refusal>
-    requires { (card_memory_bytes ≤ length cards.old) × (is_empty file.now ≡ false) × (length file.now ≤ file_bytes) × Bytes file.now × (store.old ≡ empty) × (length refs.old ≡ file_bytes) × (length words.old ≡ table_words) }
+    requires { (card_memory_bytes ≤ length cards.old) × (is_empty file.now ≡ false) × (length file.now ≤ file_bytes) × Bytes file.now × (store.old ≡ empty) }
     ensures { Answers question file.now cards.old expr.now levels.now result cards.new }
 {
     let counts = judge_in(file, cards, store, refs, words)?;

@@ -46,7 +46,7 @@ pub record Declaration (v : Store) (q : ℕ) (k : Kind) (x : ℕ) : Type 0 where
   pub kind : kind_at v.facts code ≡ kind_number k
   pub named : get_or v.names code 0 ≡ x
 
--- The column link of an INSTANCE field holds how many substitutions are written and, above that, the module that the field stands in.
+-- The fact link of an INSTANCE field holds how many substitutions are written and, above that, the module that the field stands in.
 abbrev pub owner_shift : ℕ
 owner_shift = 256
 

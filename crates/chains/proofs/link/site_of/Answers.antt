@@ -1,4 +1,4 @@
--- `link::site_of`: the columns of the field.
+-- `link::site_of`: the facts of the field.
 use Rattle.chains.proofs.Linking.{fits-kind, site-made}
 use borrow.Author.Rules.{rules}
 use Rattle.chains.proofs.link.site_of.Goals as goal

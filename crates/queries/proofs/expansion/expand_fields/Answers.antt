@@ -3,4 +3,4 @@ use borrow.Author.Rules.{rules}
 use Rattle.queries.proofs.expansion.expand_fields.Goals as goal
 
 pub expand_in-requires : goal.expand_in-requires
-expand_in-requires c = (search rules, search rules, search rules, search rules, search rules, search rules, search rules)
+expand_in-requires c = (search rules, search rules, search rules, search rules, search rules)
