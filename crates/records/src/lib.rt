@@ -1,21 +1,24 @@
 // What the programs that read records share: numbers and parts on their input, and memory that is marked before a call and summed up after it.
 #![tactic(auto)]
 
-ghost use Rattle.std.specs.Prelude.{◌≡◌, ◌+◌, ◌%◌, ◌≤◌, ◌<◌, EachIndex, IfOk, IfSome, length, slice_index};
+ghost use Rattle.std.specs.Prelude.{◌≡◌, ◌+◌, ◌%◌, ◌≤◌, ◌<◌, EachIndex, IfNone, IfOk, IfSome, slice_index};
+ghost use Rattle.std.specs.Io.KnownBytes.{IsAtEnd};
+ghost use Rattle.records.specs.Read.{NoPart, Numbered, Part, summed};
 
 use reading::read_full;
 use std::io;
 use std::io::Read;
 
 fn wide(x: u8) -> usize
-    ensures { result ≤ 255 }
+    ensures { (result ≡ x) × (result ≤ 255) }
 {
     x as usize
 }
 
 // The number that comes next, of three bytes, most significant first; none where the input ends.
-pub fn next_number(from: &mut impl Read) -> io::Result<Option<usize>>
-    ensures { IfOk result (λ o. IfSome o (λ n. n ≤ 16777215)) }
+pub fn next_number<R: Read>(from: &mut R) -> io::Result<Option<usize>>
+    ensures number { IfOk result (λ o. IfSome o (λ n. Numbered (R.remaining from.old) (R.remaining from.new) n)) }
+    ensures end { IfOk result (λ o. IfNone o (IsAtEnd (R.remaining from.new))) }
 {
     let mut head = [0u8; 3];
     if read_full(from, &mut head)? < 3 {
@@ -25,8 +28,9 @@ pub fn next_number(from: &mut impl Read) -> io::Result<Option<usize>>
 }
 
 // Reads so many bytes to the front of the space, after their number: how many they are; none where there is no room for them, or the input ends.
-pub fn read_part(from: &mut impl Read, space: &mut [u8]) -> io::Result<Option<usize>>
-    ensures { IfOk result (λ o. IfSome o (λ n. n ≤ length space.new)) }
+pub fn read_part<R: Read>(from: &mut R, space: &mut [u8]) -> io::Result<Option<usize>>
+    ensures part { IfOk result (λ o. IfSome o (λ n. Part (R.remaining from.old) (R.remaining from.new) space.new n)) }
+    ensures none { IfOk result (λ o. IfNone o (NoPart (R.remaining from.old) (R.remaining from.new) space.new)) }
 {
     let Some(size) = next_number(from)? else {
         return Ok(None);
@@ -50,11 +54,9 @@ pub fn mark(memory: &mut [u8])
 }
 
 pub fn checksum(memory: &[u8]) -> usize
-    ensures { result < 65521 }
+    ensures { result ≡ summed memory.now }
 {
-    let mut s: usize = 0;
-    for byte in memory {
-        s = (s * 31 + wide(*byte)) % 65521;
-    }
-    s
+    memory
+        .iter()
+        .fold(0, |s, byte| (s % 65521 * 31 + wide(*byte)) % 65521)
 }
