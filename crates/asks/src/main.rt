@@ -26,6 +26,9 @@ impl Room {
     const EXPRESSION: usize = 40000;
     // More than the longest expansion takes.
     const OUTPUT: usize = 66000;
+    // The largest that three bytes hold. What is asked counts as this where the input ends: the part that follows has no room for so much, and the
+    // record ends there, unless the input goes on after all (a terminal's may).
+    const NUMBER: usize = 16777215;
 }
 
 // A number, a level or a length; or the refusal; and a space.
@@ -213,15 +216,9 @@ fn ask_of(
 ) -> io::Result<bool>
     requires { lent ≤ length memory.old }
 {
-    let Some(kind) = next_number(from)? else {
-        return Ok(false);
-    };
-    let Some(first) = next_number(from)? else {
-        return Ok(false);
-    };
-    let Some(second) = next_number(from)? else {
-        return Ok(false);
-    };
+    let kind = next_number(from)?.unwrap_or(Room::NUMBER);
+    let first = next_number(from)?.unwrap_or(Room::NUMBER);
+    let second = next_number(from)?.unwrap_or(Room::NUMBER);
     let Some(size) = read_part(from, levels)? else {
         return Ok(false);
     };

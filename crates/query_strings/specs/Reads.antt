@@ -70,6 +70,11 @@ pub record Over (t : Token) (l : Option Look) (p bound : ℕ) (a x : Looked) : T
   pub unknown : x.unknown ≡ (unknown_at p bound t l || a.unknown)
   pub miscounted : x.miscounted ≡ (miscounted_at t l || a.miscounted)
 
+-- the same of a token that may be none, which adds nothing
+abbrev pub OverAny : Option Token → Option Look → (p bound : ℕ) → (a x : Looked) → Type 0
+OverAny (Some t) l p bound a x = Over t l p bound a x
+OverAny None l p bound a x = x ≡ a
+
 -- of an argument and then the others
 pub record Joins (a b x : Looked) : Type 0 where
   pub next : x.next ≡ b.next

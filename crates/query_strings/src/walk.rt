@@ -135,7 +135,7 @@ fn read_token(
     };
     let a = read_args(s, column, tables, store, numbers, shapes, out, p, g, rest)?;
     let to = a.to;
-    let looked = over(t, l, p.params, e.bound, a.looked);
+    let looked = over(Some(t), l, p.params, e.bound, a.looked);
     Some(Read { looked, to })
 }
 

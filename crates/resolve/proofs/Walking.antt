@@ -23,7 +23,7 @@ use Rattle.texts.specs.Noted.{is_name, note, noted, noteds}
 use Rattle.texts.proofs.Noting.{noted-length, noteds-length}
 use Rattle.agree.specs.Folds.{binds_of, searching}
 use Rattle.resolve.specs.Look.{look_in}
-use Rattle.resolve.specs.Walk.{number_of, wrong_count, unknown_at, miscounted_at, note_of, inside, word_count, unknown_in, miscounted_in, number_in, Notes, NotesAll, Looks, LooksAll}
+use Rattle.resolve.specs.Walk.{number_of, wrong_count, unknown_at, miscounted_at, note_of, inside, inside_of, word_count, unknown_in, miscounted_in, number_in, Notes, NotesAll, Looks, LooksAll}
 use Rattle.std.specs.Prelude.{Option as Answer, Some}
 use Rattle.resolve.specs.declared.Look.{Look}
 use Rattle.store.specs.declared.Facts.{Facts}
@@ -69,6 +69,9 @@ binds-none t b k p q = rw (← p, q)
 
 pub binds-one : (t : Token) (b k : ℕ) → b ≡ binds_of t → (b ≡ 0 → ⊥) → k + 1 ≡ inside t k
 binds-one t b k p q = rw (← p, ne_eqb b 0 q)
+
+pub inside-some : (o : Answer Token) (t : Token) (k x : ℕ) → o ≡ Some t → x ≡ inside t k → x ≡ inside_of o k
+inside-some o t k x e h = rw e h
 
 -- what is noted
 

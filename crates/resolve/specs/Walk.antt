@@ -51,6 +51,23 @@ note_of at t l refs = cond (is_name t) (set refs at (number_of l)) refs
 abbrev pub inside : Token → ℕ → ℕ
 inside t k = inner_of t (λ j. j + 1) k
 
+-- Of a token that may be none; none is no name, means nothing, has nothing noted of it and binds nothing.
+abbrev pub is_name_of : Answer Token → Bool
+is_name_of (Some t) = is_name t
+is_name_of None = false
+
+abbrev pub look_of : List ℕ → List Facts → List ℕ → Answer Token → Answer Look
+look_of names facts cs (Some t) = look_in names facts cs t
+look_of names facts cs None = None
+
+abbrev pub noted_of : ℕ → Answer Token → Answer Look → List ℕ → List ℕ
+noted_of at (Some t) l refs = note_of at t l refs
+noted_of at None l refs = refs
+
+abbrev pub inside_of : Answer Token → ℕ → ℕ
+inside_of (Some t) k = inside t k
+inside_of None k = k
+
 -- what is looked up in a context given by its codes
 abbrev pub unknown_in : List ℕ → List Facts → List ℕ → ℕ → ℕ → ℕ → Token → Bool
 unknown_in names facts cs p k at t = unknown_at p k t (look_in names facts cs t)

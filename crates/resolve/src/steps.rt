@@ -2,22 +2,23 @@
 ghost use Rattle.std.specs.Prelude.{◌≡◌, false, ◌||◌, ◌≤◌, ◌<◌, set};
 ghost use Rattle.limits.specs.Limits.{max_modules};
 ghost use Rattle.tokens.specs.Fold.{under_of};
-ghost use Rattle.texts.specs.Noted.{is_name};
 ghost use Rattle.context.specs.Entries.{context_codes};
 ghost use Rattle.agree.specs.Folds.{binds_of};
-ghost use Rattle.resolve.specs.Look.{look_in};
-ghost use Rattle.resolve.specs.Walk.{number_of, wrong_count, unknown_at, miscounted_at, note_of, inside, word_count};
+ghost use Rattle.resolve.specs.Walk.{is_name_of, look_of, noted_of, inside_of, number_of, wrong_count, unknown_at, miscounted_at, note_of, word_count};
 
 use crate::lookup::look_up;
 use crate::{Ask, Look, Looked};
 use store::{Lent, Store};
 use tokens::Token;
 
-// Whether a token is a name, alone or after an instance's.
-pub fn is_name(t: Token) -> bool
-    ensures { result ≡ is_name t }
+// Whether a token is a name, alone or after an instance's; where there is none, it is not.
+pub fn is_name(t: Option<Token>) -> bool
+    ensures { result ≡ is_name_of t }
 {
-    matches!(t, Token::Name(_, _) | Token::InstanceOperator(_, _, _))
+    matches!(
+        t,
+        Some(Token::Name(_, _) | Token::InstanceOperator(_, _, _))
+    )
 }
 
 // The number that a name was resolved to.
@@ -81,7 +82,7 @@ fn put(refs: &mut [u16], at: usize, number: u16)
 fn note_token(refs: &mut [u16], at: usize, t: Token, l: Option<Look>)
     ensures { refs.new ≡ note_of at t l refs.old }
 {
-    if is_name(t) {
+    if is_name(Some(t)) {
         put(refs, at, number_of(l));
         return;
     }
@@ -101,11 +102,14 @@ fn binds(t: Token) -> u8
     }
 }
 
-// How many bound variables are known in a token's last argument.
-pub fn bound_inside(t: Token, bound: usize) -> usize
+// How many bound variables are known in a token's last argument; where there is no token, those around it.
+pub fn bound_inside(t: Option<Token>, bound: usize) -> usize
     requires { bound < word_count }
-    ensures { result ≡ inside t bound }
+    ensures { result ≡ inside_of t bound }
 {
+    let Some(t) = t else {
+        return bound;
+    };
     if binds(t) == 0 { bound } else { bound + 1 }
 }
 
@@ -116,17 +120,20 @@ pub fn bound_in(left: u8, outer: usize, last: usize) -> usize
     if left == 1 { last } else { outer }
 }
 
-// A token looked up and noted.
+// A token looked up and noted; where there is none, nothing is.
 pub fn look_note(
     store: &Store,
     refs: &mut [u16; Lent::REFS],
     at: usize,
     m: usize,
-    t: Token,
+    t: Option<Token>,
 ) -> Option<Look>
     requires { m ≤ max_modules }
-    ensures { (result ≡ look_in store.now.names store.now.facts (context_codes store.now.contexts store.now.heads m) t) × (refs.new ≡ note_of at t result refs.old) }
+    ensures { (result ≡ look_of store.now.names store.now.facts (context_codes store.now.contexts store.now.heads m) t) × (refs.new ≡ noted_of at t result refs.old) }
 {
+    let Some(t) = t else {
+        return None;
+    };
     let l = look_up(store, m, t);
     note_token(refs, at, t, l);
     l

@@ -56,12 +56,12 @@ pub fn look_expr(
     let Some(t) = tokens::token_at(s, at) else {
         return nothing(at);
     };
-    let l = look_note(store, refs, at, ask.module, t);
+    let l = look_note(store, refs, at, ask.module, Some(t));
     let next = at + tokens::width(t);
     let args = Args {
         at: next,
         left: tokens::arguments(t),
-        last: bound_inside(t, ask.bound),
+        last: bound_inside(Some(t), ask.bound),
     };
     let a = look_args(s, store, refs, args, nest - 1, ask);
     with_args(t, l, ask, a)

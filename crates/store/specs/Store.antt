@@ -1,5 +1,6 @@
 -- What the fields read so far have added.
-use Rattle.std.specs.Prelude.{List, ℕ, ◌+◌, ◌*◌, get_or, replicate}
+use Rattle.std.specs.Prelude.{List, [], ◌∷◌, ℕ, ◌+◌, ◌*◌, ◌++◌, get_or, replicate}
+use Rattle.std.specs.List.{flat_map}
 use Rattle.limits.specs.Limits.{max_declarations}
 use Rattle.limits.specs.Sizes.{code_count, contexts_length, heads_length, orders_length, place_count}
 use Rattle.store.specs.declared.Facts.{Facts}
@@ -30,6 +31,14 @@ empty =
       heads = replicate heads_length 0;
       declared = replicate max_declarations 0;
     }
+
+-- The numbers kept of a code: `column_count` of them.
+abbrev pub columns : Facts → List ℕ
+columns r = r.kind ∷ r.first ∷ r.count ∷ r.via ∷ r.source ∷ r.link ∷ []
+
+-- All numbers of a store, array after array: `store_length` of them, as `proofs/Sizes` shows of the empty one.
+abbrev pub numbers : Store → List ℕ
+numbers v = v.names ++ flat_map columns v.facts ++ v.contexts ++ v.orders ++ v.heads ++ v.declared
 
 -- What is kept of code o, each by itself,
 abbrev pub kind_at : List Facts → ℕ → ℕ

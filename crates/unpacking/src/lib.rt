@@ -3,7 +3,7 @@
 
 ghost use Rattle.std.specs.Prelude.{◌≡◌};
 ghost use Rattle.demands.specs.Packed.{unpacked, unpacked_span, unpacked_truth};
-ghost use Rattle.unpacking.specs.Outcomes.{outcome_of};
+ghost use Rattle.unpacking.specs.Outcomes.{outcome_of, refusal_text};
 
 use std::fmt;
 
@@ -16,6 +16,8 @@ pub struct Refusal<N> {
 
 // As the programs that call the archive print it.
 impl<N: fmt::Display> fmt::Display for Refusal<N> {
+    ghost output = { refusal_text N.output };
+
     fn fmt<W: fmt::Write>(&self, f: &mut fmt::Formatter<W>) -> fmt::Result {
         write!(f, "refused {} {}", self.cause, self.place)
     }

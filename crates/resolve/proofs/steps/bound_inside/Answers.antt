@@ -1,8 +1,8 @@
-use Rattle.resolve.proofs.Walking.{binds-none, binds-one}
+use Rattle.resolve.proofs.Walking.{binds-none, binds-one, inside-some}
 use Rattle.resolve.proofs.steps.bound_inside.Goals as goal
 
 pub returns-then-binds-eq0 : goal.returns-then-binds-eq0
-returns-then-binds-eq0 c = search binds-none
+returns-then-binds-eq0 c = search (inside-some, binds-none)
 
 pub returns-else-binds-eq0 : goal.returns-else-binds-eq0
-returns-else-binds-eq0 c = search binds-one
+returns-else-binds-eq0 c = search (inside-some, binds-one)
