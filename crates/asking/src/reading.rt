@@ -7,11 +7,16 @@ ghost use Rattle.asking.specs.Asks.{levels_cause, limit_cause};
 use limits::Limits;
 use tokens::whole;
 
-// Whether one of the levels given is none.
+// Whether one of the levels given is none. A `for`, not `any`: what the edit first_level_unseen plants in it is refused for the level that is not seen, in `any` for its form.
 fn level_above(levels: &[u8]) -> bool
     ensures { result ≡ list_any (λ l. leb level_count l) levels.now }
 {
-    levels.iter().any(|l| (Limits::LEVELS as u8) <= *l)
+    for i in 0..levels.len() {
+        if (Limits::LEVELS as u8) <= levels[i] {
+            return true;
+        }
+    }
+    false
 }
 
 // Where a limit is passed: 5, if the bytes are one expression.
